@@ -201,7 +201,7 @@ impl Tag {
 
 impl Rule {
     /// Whether a value may have this length.
-    pub fn admits(&self, len: usize) -> bool
+    pub(crate) fn admits(&self, len: usize) -> bool
         ensures { λ r. ⌜ r ≡ admits (now (self .entry)) len ⌝ }
     {
         self.least as usize <= len && len <= self.most as usize

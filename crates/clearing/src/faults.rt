@@ -3,9 +3,13 @@ ghost use mathlib.Core.Path.{_≡_};
 ghost use Rattle.clearing.specs.declared.faults.ScriptError.the-variants.{Memory, Line};
 use crate::names::Name;
 use block::faults::FieldRefusal;
+use block::tags::Rule;
+use block::tags::rule_of;
 use std::alloc::AllocError;
 use std::alloc::Refused;
 use std::fmt;
+
+const UNKNOWN_FIELD: &str = "unknown field: expected kind, identifier, creation-date, assigner, assignee, number, original-kind, original-identifier, debtor-agent, verdict, code, state, closing-identifier, uetr, end-to-end, amount, status, reason, text or creditor-agent";
 
 /// A line that makes no sense.
 #[derive(Clone, Copy)]
@@ -86,7 +90,7 @@ pub(crate) impl fmt::Display for LineFault as LineFaultDisplay {
             LineFault::UnclosedQuote => f.write_str("a quoted value does not end: expected a closing \""),
             LineFault::UnknownEscape => f.write_str("unknown escape: expected \\\", \\\\ or \\x and two hex digits"),
             LineFault::NotAField => f.write_str("expected a field, as NAME=VALUE"),
-            LineFault::UnknownField => f.write_str("unknown field: expected a name such as kind, identifier or amount"),
+            LineFault::UnknownField => f.write_str(UNKNOWN_FIELD),
             LineFault::NotANumber(name, most) => {
                 let name = name.text;
                 write!(f, "{name} takes a number from 0 to {most}")
@@ -103,10 +107,10 @@ pub(crate) impl fmt::Display for LineFault as LineFaultDisplay {
 
 fn refused<W: fmt::Write>(f: &mut fmt::Formatter<W>, name: Name, refusal: FieldRefusal) -> fmt::Result {
     let number = refusal.number();
-    let name = name.text;
-    match refusal {
-        FieldRefusal::UnlistedTag => write!(f, "{number}: no field is called {name}"),
-        FieldRefusal::UnlistedLength => write!(f, "{number}: {name} takes no value of this length"),
-        FieldRefusal::NotRising => write!(f, "{number}: {name} does not come behind the field before it: expected the fields in the order of their tags"),
+    let text = name.text;
+    match (refusal, rule_of(name.tag.number())) {
+        (FieldRefusal::UnlistedLength, Some(Rule { least, most, .. })) => write!(f, "{number}: {text} takes {least} to {most} bytes"),
+        (FieldRefusal::NotRising, _) => write!(f, "{number}: {text} stands too late: expected the fields in the order of their tags"),
+        _ => write!(f, "{number}: {text} is no listed field"),
     }
 }

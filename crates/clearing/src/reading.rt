@@ -23,6 +23,17 @@ pub(crate) struct Refusal {
     pub place: u16,
 }
 
+impl Refusal {
+    /// The refusal in words.
+    pub(crate) fn meaning(self) -> &'static str {
+        match self.number {
+            1 => "refused: a message has 1 to 17 blocks of 512 bytes",
+            2 => "refused: the last two bytes of the block are not the check of the others",
+            _ => "refused: at this byte stands no field that may stand there, or a byte that should be zero",
+        }
+    }
+}
+
 /// Whether bytes are the blocks of a message: their length is judged first, then every check, then every layout.
 pub(crate) fn judge_message(bytes: &[u8]) -> Result<(), Refusal> {
     let len = bytes.len();
@@ -85,7 +96,7 @@ fn show_part(out: &mut String, style: Style, part: &Part) -> Result<(), OutOfMem
     out.push('\n')?;
     if let Style::Explained = style {
         let meaning = name.meaning;
-        write!(out, "  the {meaning}, at byte {at} of block {block}\n")?;
+        writeln!(out, "  the {meaning}, at byte {at} of block {block}")?;
     }
     Ok(())
 }

@@ -23,7 +23,9 @@ use crate::values::composed;
 use crate::words::split;
 use block::BLOCK;
 use std::alloc::Global;
+use std::fmt;
 use std::fmt::Write;
+use std::fmt::WriteMethods;
 
 /// How the program answers: a line for each answer, or what it means beside it.
 #[derive(Clone, Copy)]
@@ -86,10 +88,16 @@ impl Session {
         }
     }
 
+    /// Adds a line with an answer, and what it means.
+    fn answer<D: fmt::Display + Drop>(&self, out: &mut String, answer: D, meaning: &str) -> Result<(), OutOfMemory> {
+        out.writeln(answer)?;
+        self.explain(out, meaning)
+    }
+
     /// Adds what an answer means, where that is asked for.
     fn explain(&self, out: &mut String, text: &str) -> Result<(), OutOfMemory> {
         if let Style::Explained = self.style {
-            write!(out, "  {text}\n")?;
+            writeln!(out, "  {text}")?;
         }
         Ok(())
     }
@@ -101,13 +109,8 @@ impl Session {
         let block = composed(assignments(self.heap, words)?.as_slice())?;
         let number = self.message.len() / BLOCK;
         self.message.extend_from_slice(&block)?;
-        self.say_added(out, number)?;
+        self.answer(out, format_args!("block: {number}"), "added to the message, closed with its check")?;
         Ok(())
-    }
-
-    fn say_added(&self, out: &mut String, number: usize) -> Result<(), OutOfMemory> {
-        write!(out, "block: {number}\n")?;
-        self.explain(out, "added to the message, closed with its check")
     }
 
     fn write(&self, words: &[Vec<u8>], out: &mut String) -> Result<(), ScriptError>
@@ -142,8 +145,7 @@ impl Session {
         match judge_message(bytes) {
             Ok(()) => {
                 show_message(out, self.style, bytes)?;
-                out.push_str("read: 0\n")?;
-                self.explain(out, "every block reads")
+                self.answer(out, "read: 0", "every block reads")
             }
             Err(refusal) => self.show_refusal(refusal, out),
         }
@@ -151,12 +153,7 @@ impl Session {
 
     fn show_refusal(&self, refusal: Refusal, out: &mut String) -> Result<(), OutOfMemory> {
         let Refusal { number, block, place } = refusal;
-        write!(out, "read: {number} blocks {block} {place}\n")?;
-        match number {
-            1 => self.explain(out, "refused: a message has 1 to 17 blocks of 512 bytes"),
-            2 => self.explain(out, "refused: the last two bytes of the block are not the check of the others"),
-            _ => self.explain(out, "refused: at this byte the block has no field that may stand there, or a byte that should be zero"),
-        }
+        self.answer(out, format_args!("read: {number} blocks {block} {place}"), refusal.meaning())
     }
 
     fn spoil(&mut self, words: &[Vec<u8>], out: &mut String) -> Result<(), ScriptError>
@@ -167,13 +164,8 @@ impl Session {
         let Some(()) = self.set_byte(block, place, value) else {
             return Err(ScriptError::Line(LineFault::NoSuchByte));
         };
-        self.say_spoiled(out, block, place, value)?;
+        self.answer(out, format_args!("spoil: {block} {place} {value}"), "the byte is changed and the check is not")?;
         Ok(())
-    }
-
-    fn say_spoiled(&self, out: &mut String, block: u64, place: u64, value: u64) -> Result<(), OutOfMemory> {
-        write!(out, "spoil: {block} {place} {value}\n")?;
-        self.explain(out, "the byte is changed and the check is not, so that the block should no longer read")
     }
 
     /// Sets a byte of a block of the message, if there is one.
@@ -199,13 +191,8 @@ impl Session {
     {
         takes_nothing(words)?;
         self.message.clear();
-        self.say_cleared(out)?;
+        self.answer(out, "clear: 0", "the message has no block now")?;
         Ok(())
-    }
-
-    fn say_cleared(&self, out: &mut String) -> Result<(), OutOfMemory> {
-        out.push_str("clear: 0\n")?;
-        self.explain(out, "the message has no block now")
     }
 }
 
