@@ -9,7 +9,8 @@ use std::alloc::AllocError;
 use std::alloc::Refused;
 use std::fmt;
 
-const UNKNOWN_FIELD: &str = "unknown field: expected kind, identifier, creation-date, assigner, assignee, number, original-kind, original-identifier, debtor-agent, verdict, code, state, closing-identifier, uetr, end-to-end, amount, status, reason, text or creditor-agent";
+const UNKNOWN_FIELD: &str =
+    "unknown field: expected kind, identifier, creation-date, assigner, assignee, number, original-kind, original-identifier, debtor-agent, verdict, code, state, closing-identifier, uetr, end-to-end, amount, status, reason, text or creditor-agent";
 
 /// A line that makes no sense.
 #[derive(Clone, Copy)]
@@ -86,9 +87,15 @@ pub(crate) impl From<LineFault> for ScriptError as ScriptErrorFromLine {
 pub(crate) impl fmt::Display for LineFault as LineFaultDisplay {
     fn fmt<W: fmt::Write>(&self, f: &mut fmt::Formatter<W>) -> fmt::Result {
         match *self {
-            LineFault::UnknownCommand => f.write_str("unknown command: expected block, write, read, spoil or clear"),
-            LineFault::UnclosedQuote => f.write_str("a quoted value does not end: expected a closing \""),
-            LineFault::UnknownEscape => f.write_str("unknown escape: expected \\\", \\\\ or \\x and two hex digits"),
+            LineFault::UnknownCommand => f.write_str(
+                "unknown command: expected block, write, read, spoil or clear",
+            ),
+            LineFault::UnclosedQuote => f.write_str(
+                "a quoted value does not end: expected a closing \"",
+            ),
+            LineFault::UnknownEscape => f.write_str(
+                "unknown escape: expected \\\", \\\\ or \\x and two hex digits",
+            ),
             LineFault::NotAField => f.write_str("expected a field, as NAME=VALUE"),
             LineFault::UnknownField => f.write_str(UNKNOWN_FIELD),
             LineFault::NotANumber(name, most) => {
@@ -96,21 +103,37 @@ pub(crate) impl fmt::Display for LineFault as LineFaultDisplay {
                 write!(f, "{name} takes a number from 0 to {most}")
             }
             LineFault::NotHex => f.write_str("expected pairs of hex digits"),
-            LineFault::NotABlockEnd => f.write_str("two dots stand for zeros up to a block's check: expected at most 510 bytes before them"),
+            LineFault::NotABlockEnd => f.write_str(
+                "two dots stand for zeros up to a block's check: expected at most 510 bytes before them",
+            ),
             LineFault::Refused(name, refusal) => refused(f, name, refusal),
             LineFault::TakesNothing => f.write_str("expected nothing behind this command"),
-            LineFault::TakesThreeNumbers => f.write_str("expected three numbers: spoil BLOCK BYTE VALUE"),
-            LineFault::NoSuchByte => f.write_str("no such byte: expected a block of the message, a byte from 0 to 511 and a value from 0 to 255"),
+            LineFault::TakesThreeNumbers => f.write_str(
+                "expected three numbers: spoil BLOCK BYTE VALUE",
+            ),
+            LineFault::NoSuchByte => f.write_str(
+                "no such byte: expected a block of the message, a byte from 0 to 511 and a value from 0 to 255",
+            ),
         }
     }
 }
 
-fn refused<W: fmt::Write>(f: &mut fmt::Formatter<W>, name: Name, refusal: FieldRefusal) -> fmt::Result {
+fn refused<W: fmt::Write>(
+    f: &mut fmt::Formatter<W>,
+    name: Name,
+    refusal: FieldRefusal,
+) -> fmt::Result {
     let number = refusal.number();
     let text = name.text;
     match (refusal, rule_of(name.tag.number())) {
-        (FieldRefusal::UnlistedLength, Some(Rule { least, most, .. })) => write!(f, "{number}: {text} takes {least} to {most} bytes"),
-        (FieldRefusal::NotRising, _) => write!(f, "{number}: {text} stands too late: expected the fields in the order of their tags"),
+        (FieldRefusal::UnlistedLength, Some(Rule { least, most, .. })) => write!(
+            f,
+            "{number}: {text} takes {least} to {most} bytes"
+        ),
+        (FieldRefusal::NotRising, _) => write!(
+            f,
+            "{number}: {text} stands too late: expected the fields in the order of their tags"
+        ),
         _ => write!(f, "{number}: {text} is no listed field"),
     }
 }

@@ -5,14 +5,31 @@ use crate::faults::LineFault;
 use crate::faults::OutOfMemory;
 use crate::faults::OutOfMemoryFromAlloc;
 use crate::faults::ScriptError;
-use crate::faults::ScriptErrorFromLine;
 use crate::faults::ScriptErrorFromAlloc;
+use crate::faults::ScriptErrorFromLine;
 use crate::faults::ScriptErrorFromRefused;
 use block::BLOCK;
 use block::BODY;
 use std::alloc::Global;
 
-const DIGITS: [char; 16] = ['0', '1', '2', '3', '4', '5', '6', '7', '8', '9', 'a', 'b', 'c', 'd', 'e', 'f'];
+const DIGITS: [char; 16] = [
+    '0',
+    '1',
+    '2',
+    '3',
+    '4',
+    '5',
+    '6',
+    '7',
+    '8',
+    '9',
+    'a',
+    'b',
+    'c',
+    'd',
+    'e',
+    'f',
+];
 
 /// What a hex digit stands for.
 pub(crate) fn hex_digit(byte: u8) -> Option<u8>

@@ -54,7 +54,12 @@ fn input(rt: &LibcRuntime, script: Option<String>) -> Result<Vec<u8>, AnyError> 
 }
 
 /// Carries out one line and prints its answers; whether it made sense.
-fn carry_out(rt: &LibcRuntime, session: &mut Session, number: u64, line: &[u8]) -> Result<bool, AnyError> {
+fn carry_out(
+    rt: &LibcRuntime,
+    session: &mut Session,
+    number: u64,
+    line: &[u8],
+) -> Result<bool, AnyError> {
     let mut out = String::new(rt.alloc());
     match session.run(line, &mut out) {
         Ok(()) => {

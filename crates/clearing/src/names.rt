@@ -10,26 +10,106 @@ pub(crate) struct Name {
 }
 
 const NAMES: [Name; 20] = [
-    Name { tag: Tag::Kind, text: "kind", meaning: "message type" },
-    Name { tag: Tag::Identifier, text: "identifier", meaning: "message identification" },
-    Name { tag: Tag::CreationDate, text: "creation-date", meaning: "creation date" },
-    Name { tag: Tag::Assigner, text: "assigner", meaning: "member that sends the message" },
-    Name { tag: Tag::Assignee, text: "assignee", meaning: "member that the message is for" },
-    Name { tag: Tag::NumberOfTransactions, text: "number", meaning: "number of transactions" },
-    Name { tag: Tag::OriginalKind, text: "original-kind", meaning: "type of the original message" },
-    Name { tag: Tag::OriginalIdentifier, text: "original-identifier", meaning: "identification of the original message" },
-    Name { tag: Tag::DebtorAgent, text: "debtor-agent", meaning: "agent of the payer" },
-    Name { tag: Tag::Verdict, text: "verdict", meaning: "number of the hub's verdict" },
-    Name { tag: Tag::ErrorCode, text: "code", meaning: "error code of the whole message" },
-    Name { tag: Tag::State, text: "state", meaning: "state of a case" },
-    Name { tag: Tag::ClosingIdentifier, text: "closing-identifier", meaning: "identification of the message that closed a case" },
-    Name { tag: Tag::Uetr, text: "uetr", meaning: "unique end-to-end transaction reference" },
-    Name { tag: Tag::EndToEnd, text: "end-to-end", meaning: "end-to-end identification" },
-    Name { tag: Tag::Amount, text: "amount", meaning: "amount in kopecks" },
-    Name { tag: Tag::Status, text: "status", meaning: "transaction status" },
-    Name { tag: Tag::Reason, text: "reason", meaning: "status reason" },
-    Name { tag: Tag::Text, text: "text", meaning: "additional information" },
-    Name { tag: Tag::CreditorAgent, text: "creditor-agent", meaning: "agent of the payee" },
+    Name {
+        tag: Tag::Kind,
+        text: "kind",
+        meaning: "message type",
+    },
+    Name {
+        tag: Tag::Identifier,
+        text: "identifier",
+        meaning: "message identification",
+    },
+    Name {
+        tag: Tag::CreationDate,
+        text: "creation-date",
+        meaning: "creation date",
+    },
+    Name {
+        tag: Tag::Assigner,
+        text: "assigner",
+        meaning: "member that sends the message",
+    },
+    Name {
+        tag: Tag::Assignee,
+        text: "assignee",
+        meaning: "member that the message is for",
+    },
+    Name {
+        tag: Tag::NumberOfTransactions,
+        text: "number",
+        meaning: "number of transactions",
+    },
+    Name {
+        tag: Tag::OriginalKind,
+        text: "original-kind",
+        meaning: "type of the original message",
+    },
+    Name {
+        tag: Tag::OriginalIdentifier,
+        text: "original-identifier",
+        meaning: "identification of the original message",
+    },
+    Name {
+        tag: Tag::DebtorAgent,
+        text: "debtor-agent",
+        meaning: "agent of the payer",
+    },
+    Name {
+        tag: Tag::Verdict,
+        text: "verdict",
+        meaning: "number of the hub's verdict",
+    },
+    Name {
+        tag: Tag::ErrorCode,
+        text: "code",
+        meaning: "error code of the whole message",
+    },
+    Name {
+        tag: Tag::State,
+        text: "state",
+        meaning: "state of a case",
+    },
+    Name {
+        tag: Tag::ClosingIdentifier,
+        text: "closing-identifier",
+        meaning: "identification of the message that closed a case",
+    },
+    Name {
+        tag: Tag::Uetr,
+        text: "uetr",
+        meaning: "unique end-to-end transaction reference",
+    },
+    Name {
+        tag: Tag::EndToEnd,
+        text: "end-to-end",
+        meaning: "end-to-end identification",
+    },
+    Name {
+        tag: Tag::Amount,
+        text: "amount",
+        meaning: "amount in kopecks",
+    },
+    Name {
+        tag: Tag::Status,
+        text: "status",
+        meaning: "transaction status",
+    },
+    Name {
+        tag: Tag::Reason,
+        text: "reason",
+        meaning: "status reason",
+    },
+    Name {
+        tag: Tag::Text,
+        text: "text",
+        meaning: "additional information",
+    },
+    Name {
+        tag: Tag::CreditorAgent,
+        text: "creditor-agent",
+        meaning: "agent of the payee",
+    },
 ];
 
 /// The field that is called so, if there is one.

@@ -29,7 +29,8 @@ impl Refusal {
         match self.number {
             1 => "refused: a message has 1 to 17 blocks of 512 bytes",
             2 => "refused: the last two bytes of the block are not the check of the others",
-            _ => "refused: at this byte stands no field that may stand there, or a byte that should be zero",
+            _ =>
+                "refused: at this byte stands no field that may stand there, or a byte that should be zero",
         }
     }
 }
@@ -38,7 +39,11 @@ impl Refusal {
 pub(crate) fn judge_message(bytes: &[u8]) -> Result<(), Refusal> {
     let len = bytes.len();
     if len == 0 || len % BLOCK != 0 || len > usize::from(MOST_BLOCKS) * BLOCK {
-        return Err(Refusal { number: 1, block: 0, place: 0 });
+        return Err(Refusal {
+            number: 1,
+            block: 0,
+            place: 0,
+        });
     }
     judge_checks(bytes)?;
     judge_layouts(bytes)
@@ -48,7 +53,11 @@ fn judge_checks(bytes: &[u8]) -> Result<(), Refusal> {
     for (number, chunk) in (0..MOST_BLOCKS).zip(bytes.chunks_exact(BLOCK)) {
         if let Ok(block) = <&[u8; BLOCK]>::try_from(chunk) {
             if !has_check(block) {
-                return Err(Refusal { number: 2, block: number, place: 510 });
+                return Err(Refusal {
+                    number: 2,
+                    block: number,
+                    place: 510,
+                });
             }
         }
     }
@@ -59,7 +68,11 @@ fn judge_layouts(bytes: &[u8]) -> Result<(), Refusal> {
     for (number, chunk) in (0..MOST_BLOCKS).zip(bytes.chunks_exact(BLOCK)) {
         if let Ok(block) = <&[u8; BLOCK]>::try_from(chunk) {
             if let Err(fault) = judge(block) {
-                return Err(Refusal { number: fault.number(), block: number, place: fault.place() });
+                return Err(Refusal {
+                    number: fault.number(),
+                    block: number,
+                    place: fault.place(),
+                });
             }
         }
     }
@@ -67,7 +80,11 @@ fn judge_layouts(bytes: &[u8]) -> Result<(), Refusal> {
 }
 
 /// Prints the fields of every block, in order.
-pub(crate) fn show_message(out: &mut String, style: Style, bytes: &[u8]) -> Result<(), OutOfMemory> {
+pub(crate) fn show_message(
+    out: &mut String,
+    style: Style,
+    bytes: &[u8],
+) -> Result<(), OutOfMemory> {
     for (number, chunk) in (0..MOST_BLOCKS).zip(bytes.chunks_exact(BLOCK)) {
         if let Ok(block) = <&[u8; BLOCK]>::try_from(chunk) {
             show_block(out, style, Fields::of(block, number))?;

@@ -66,7 +66,11 @@ pub(crate) struct Session {
 
 impl Session {
     pub(crate) fn new(heap: Global, style: Style) -> Session {
-        Session { heap, style, message: Vec::new(heap) }
+        Session {
+            heap,
+            style,
+            message: Vec::new(heap),
+        }
     }
 
     /// Carries out a line and adds what it answers to `out`. Of a line that makes no sense nothing is done.
@@ -89,7 +93,12 @@ impl Session {
     }
 
     /// Adds a line with an answer, and what it means.
-    fn answer<D: fmt::Display + Drop>(&self, out: &mut String, answer: D, meaning: &str) -> Result<(), OutOfMemory> {
+    fn answer<D: fmt::Display + Drop>(
+        &self,
+        out: &mut String,
+        answer: D,
+        meaning: &str,
+    ) -> Result<(), OutOfMemory> {
         out.writeln(answer)?;
         self.explain(out, meaning)
     }
@@ -109,7 +118,11 @@ impl Session {
         let block = composed(assignments(self.heap, words)?.as_slice())?;
         let number = self.message.len() / BLOCK;
         self.message.extend_from_slice(&block)?;
-        self.answer(out, format_args!("block: {number}"), "added to the message, closed with its check")?;
+        self.answer(
+            out,
+            format_args!("block: {number}"),
+            "added to the message, closed with its check",
+        )?;
         Ok(())
     }
 
@@ -127,7 +140,10 @@ impl Session {
             push_all(out, block)?;
             out.push('\n')?;
         }
-        self.explain(out, "each block in hex: 510 bytes of fields and zeros, and two bytes of check")
+        self.explain(
+            out,
+            "each block in hex: 510 bytes of fields and zeros, and two bytes of check",
+        )
     }
 
     fn read(&self, words: &[Vec<u8>], out: &mut String) -> Result<(), ScriptError>
@@ -152,8 +168,16 @@ impl Session {
     }
 
     fn show_refusal(&self, refusal: Refusal, out: &mut String) -> Result<(), OutOfMemory> {
-        let Refusal { number, block, place } = refusal;
-        self.answer(out, format_args!("read: {number} blocks {block} {place}"), refusal.meaning())
+        let Refusal {
+            number,
+            block,
+            place,
+        } = refusal;
+        self.answer(
+            out,
+            format_args!("read: {number} blocks {block} {place}"),
+            refusal.meaning(),
+        )
     }
 
     fn spoil(&mut self, words: &[Vec<u8>], out: &mut String) -> Result<(), ScriptError>
@@ -164,7 +188,11 @@ impl Session {
         let Some(()) = self.set_byte(block, place, value) else {
             return Err(ScriptError::Line(LineFault::NoSuchByte));
         };
-        self.answer(out, format_args!("spoil: {block} {place} {value}"), "the byte is changed and the check is not")?;
+        self.answer(
+            out,
+            format_args!("spoil: {block} {place} {value}"),
+            "the byte is changed and the check is not",
+        )?;
         Ok(())
     }
 
@@ -177,7 +205,10 @@ impl Session {
         if place >= BLOCK {
             return None;
         }
-        let at = usize::try_from(block).ok()?.checked_mul(BLOCK)?.checked_add(place)?;
+        let at = usize::try_from(block)
+            .ok()?
+            .checked_mul(BLOCK)?
+            .checked_add(place)?;
         if at >= self.message.len() {
             return None;
         }
@@ -218,12 +249,20 @@ fn three_numbers(words: &[Vec<u8>]) -> Result<(u64, u64, u64), LineFault> {
     let [first, second, third] = words else {
         return Err(LineFault::TakesThreeNumbers);
     };
-    match (number(first.as_slice()), number(second.as_slice()), number(third.as_slice())) {
+    match (
+        number(first.as_slice()),
+        number(second.as_slice()),
+        number(third.as_slice()),
+    ) {
         (Some(first), Some(second), Some(third)) => Ok((first, second, third)),
         _ => Err(LineFault::TakesThreeNumbers),
     }
 }
 
 fn takes_nothing(words: &[Vec<u8>]) -> Result<(), LineFault> {
-    if words.is_empty() { Ok(()) } else { Err(LineFault::TakesNothing) }
+    if words.is_empty() {
+        Ok(())
+    } else {
+        Err(LineFault::TakesNothing)
+    }
 }

@@ -4,8 +4,8 @@
 //! `\xHH` for any byte. A `#` in a word's place starts a comment.
 use crate::faults::LineFault;
 use crate::faults::ScriptError;
-use crate::faults::ScriptErrorFromLine;
 use crate::faults::ScriptErrorFromAlloc;
+use crate::faults::ScriptErrorFromLine;
 use crate::faults::ScriptErrorFromRefused;
 use crate::hex::hex_digit;
 use std::alloc::AllocError;
@@ -33,7 +33,12 @@ struct Splitter {
 
 impl Splitter {
     fn new(heap: Global) -> Splitter {
-        Splitter { heap, words: Vec::new(heap), word: Vec::new(heap), place: Place::Between }
+        Splitter {
+            heap,
+            words: Vec::new(heap),
+            word: Vec::new(heap),
+            place: Place::Between,
+        }
     }
 
     /// Adds a byte to the word, and goes on at a place.
@@ -106,7 +111,12 @@ impl Splitter {
             Place::Word => self.end_word()?,
             _ => return Err(ScriptError::Line(LineFault::UnclosedQuote)),
         }
-        let Splitter { heap: _, words, word, place: _ } = self;
+        let Splitter {
+            heap: _,
+            words,
+            word,
+            place: _,
+        } = self;
         drop(word);
         Ok(words)
     }

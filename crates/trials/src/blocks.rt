@@ -48,20 +48,76 @@ struct Front {
 }
 
 const FRONTS: [Front; 14] = [
-    Front { bytes: &[], number: 0, place: 0 },
-    Front { bytes: &[1, 1, 13], number: 0, place: 0 },
-    Front { bytes: &[1, 1, 13, 6, 2, 0, 1], number: 0, place: 0 },
-    Front { bytes: &[6, 2, 0, 1, 1, 1, 13], number: 3, place: 4 },
-    Front { bytes: &[1, 1, 13, 1, 1, 13], number: 3, place: 3 },
-    Front { bytes: &[14, 6, 48, 48, 48, 48, 48, 48], number: 3, place: 0 },
-    Front { bytes: &[15, 1, 1], number: 3, place: 0 },
-    Front { bytes: &[1, 1, 13, 23, 1, 1], number: 3, place: 3 },
-    Front { bytes: &[1, 2, 13, 13], number: 3, place: 0 },
-    Front { bytes: &[1, 0], number: 3, place: 0 },
-    Front { bytes: &[0, 1], number: 3, place: 1 },
-    Front { bytes: &[1, 1, 13, 0, 0, 0, 9], number: 3, place: 6 },
-    Front { bytes: &[17, 36, 65], number: 3, place: 0 },
-    Front { bytes: &[255, 255], number: 3, place: 0 },
+    Front {
+        bytes: &[],
+        number: 0,
+        place: 0,
+    },
+    Front {
+        bytes: &[1, 1, 13],
+        number: 0,
+        place: 0,
+    },
+    Front {
+        bytes: &[1, 1, 13, 6, 2, 0, 1],
+        number: 0,
+        place: 0,
+    },
+    Front {
+        bytes: &[6, 2, 0, 1, 1, 1, 13],
+        number: 3,
+        place: 4,
+    },
+    Front {
+        bytes: &[1, 1, 13, 1, 1, 13],
+        number: 3,
+        place: 3,
+    },
+    Front {
+        bytes: &[14, 6, 48, 48, 48, 48, 48, 48],
+        number: 3,
+        place: 0,
+    },
+    Front {
+        bytes: &[15, 1, 1],
+        number: 3,
+        place: 0,
+    },
+    Front {
+        bytes: &[1, 1, 13, 23, 1, 1],
+        number: 3,
+        place: 3,
+    },
+    Front {
+        bytes: &[1, 2, 13, 13],
+        number: 3,
+        place: 0,
+    },
+    Front {
+        bytes: &[1, 0],
+        number: 3,
+        place: 0,
+    },
+    Front {
+        bytes: &[0, 1],
+        number: 3,
+        place: 1,
+    },
+    Front {
+        bytes: &[1, 1, 13, 0, 0, 0, 9],
+        number: 3,
+        place: 6,
+    },
+    Front {
+        bytes: &[17, 36, 65],
+        number: 3,
+        place: 0,
+    },
+    Front {
+        bytes: &[255, 255],
+        number: 3,
+        place: 0,
+    },
 ];
 
 #[test]
@@ -91,20 +147,76 @@ struct Put {
 }
 
 const PUTS: [Put; 14] = [
-    Put { tag: 3, len: 8, refused: false },
-    Put { tag: 22, len: 6, refused: false },
-    Put { tag: 17, len: 1, refused: false },
-    Put { tag: 17, len: 35, refused: false },
-    Put { tag: 21, len: 105, refused: false },
-    Put { tag: 17, len: 0, refused: true },
-    Put { tag: 17, len: 36, refused: true },
-    Put { tag: 21, len: 106, refused: true },
-    Put { tag: 3, len: 7, refused: true },
-    Put { tag: 2, len: 20, refused: true },
-    Put { tag: 1, len: 1, refused: true },
-    Put { tag: 0, len: 1, refused: true },
-    Put { tag: 14, len: 6, refused: true },
-    Put { tag: 255, len: 1, refused: true },
+    Put {
+        tag: 3,
+        len: 8,
+        refused: false,
+    },
+    Put {
+        tag: 22,
+        len: 6,
+        refused: false,
+    },
+    Put {
+        tag: 17,
+        len: 1,
+        refused: false,
+    },
+    Put {
+        tag: 17,
+        len: 35,
+        refused: false,
+    },
+    Put {
+        tag: 21,
+        len: 105,
+        refused: false,
+    },
+    Put {
+        tag: 17,
+        len: 0,
+        refused: true,
+    },
+    Put {
+        tag: 17,
+        len: 36,
+        refused: true,
+    },
+    Put {
+        tag: 21,
+        len: 106,
+        refused: true,
+    },
+    Put {
+        tag: 3,
+        len: 7,
+        refused: true,
+    },
+    Put {
+        tag: 2,
+        len: 20,
+        refused: true,
+    },
+    Put {
+        tag: 1,
+        len: 1,
+        refused: true,
+    },
+    Put {
+        tag: 0,
+        len: 1,
+        refused: true,
+    },
+    Put {
+        tag: 14,
+        len: 6,
+        refused: true,
+    },
+    Put {
+        tag: 255,
+        len: 1,
+        refused: true,
+    },
 ];
 
 #[test]
@@ -122,7 +234,10 @@ fn puts() -> Result<(), Fail> {
         check_eq(refused, if put.refused { 49 } else { 0 })?;
         check_eq(fault_of(&block), (0, 0))?;
         check_eq(value(&block, 2).unwrap_or(&[]), &bytes[0..20])?;
-        check_eq(value(&block, put.tag).is_some(), !put.refused || put.tag == 2)?;
+        check_eq(
+            value(&block, put.tag).is_some(),
+            !put.refused || put.tag == 2,
+        )?;
     }
     Ok(())
 }

@@ -22,10 +22,11 @@ loop-field-again c =
     let a = c .field-item .result in
     let i = c .loop-field .field-index in
     let w = one-more (written (c .loop-field .writer)) (written (c .put .last .self)) a (c .number .result) (c .as-slice .result .now) (c .in-rest .ensures tt .fields) (c .number .ensures) (c .as-slice .ensures .value) in
-    let m = map-more field-value (c .args .fields .now) i a (c .loop-field-test .taken) in
-    (c .put .ensures .sound,
-     w ∙ ap (λ fs. fs ++ field-value a ∷ []) (c .loop-field .inv .1) ∙ ap (λ x. map field-value (take i (c .args .fields .now)) ++ field-value x ∷ []) (c .field-item .is) ∙ sym m,
-     c .put .ensures .named ∙ c .loop-field .inv .2)
+    let m = map-more field-value (c .args .fields .now) i a (c .loop-field-test .taken) in (
+      c .put .ensures .sound,
+      w ∙ ap (λ fs. fs ++ field-value a ∷ []) (c .loop-field .inv .1) ∙ ap (λ x. map field-value (take i (c .args .fields .now)) ++ field-value x ∷ []) (c .field-item .is) ∙ sym m,
+      c .put .ensures .named ∙ c .loop-field .inv .2,
+    )
 
 pub returns : need.returns
 returns c =
