@@ -143,7 +143,7 @@ layout-holds b fs n e =
     (r .1 ∙ ap (λ x. encoded fs ++ replicate x 0) z, r .2)
 
 -- a block that reads has the check, and its layout holds the fields
-reading-parts : (b : List ℕ) (fs : List FieldValue) → reading b ≡ Ok fs → (checks b ≡ true) × (layout b ≡ Ok fs)
+pub reading-parts : (b : List ℕ) (fs : List FieldValue) → reading b ≡ Ok fs → (checks b ≡ true) × (layout b ≡ Ok fs)
 unfolding reading
 reading-parts b fs e =
     ⊎-elim (λ (t : checks b ≡ true). (t, sym (cond-true (checks b) _ _ t) ∙ e))
@@ -180,17 +180,20 @@ parsed-zero xs zero = refl
 parsed-zero [] (suc j) = refl
 parsed-zero (x ∷ xs) (suc j) = refl
 
--- the fields of a block that reads are those that are found at its front
-pub reading-fields-of : (b : List ℕ) (fs : List FieldValue) → Block b → reading b ≡ Ok fs → fields-of b ≡ fs
-unfolding block-of closed padded fields-of
-reading-fields-of b fs k r =
-    let f = reading-holds b fs k r in
+-- the fields of a block whose layout holds are those that are found at its front
+pub layout-fields-of : (b : List ℕ) (fs : List FieldValue) → length b ≡ 512 → layout b ≡ Ok fs → fields-of b ≡ fs
+unfolding padded fields-of
+layout-fields-of b fs n r =
+    let f = layout-holds b fs n r in
     let s = encoded-bound fs (f .1) in
     let e = encoded fs in
-    let p = padded 510 (encoded fs) in
-    let xs = check p / 256 ∷ check p % 256 ∷ [] in
+    let xs = drop 510 b in
     let m : 510 - length e ≡ suc (509 - length e) = omega arith in
     let y : b ≡ e ++ 0 ∷ (replicate (509 - length e) 0 ++ xs) =
-    f .0 ∙ append-assoc e (replicate (510 - length e) 0) xs ∙ ap (λ x. e ++ (replicate x 0 ++ xs)) m in
-    let n = ap length y ∙ length-append e (0 ∷ (replicate (509 - length e) 0 ++ xs)) in
+    sym (take-append-drop 510 b) ∙ ap (λ x. x ++ xs) (f .0) ∙ append-assoc e (replicate (510 - length e) 0) xs ∙ ap (λ x. e ++ (replicate x 0 ++ xs)) m in
+    let k = ap length y ∙ length-append e (0 ∷ (replicate (509 - length e) 0 ++ xs)) in
     ap (parsed (length b)) y ∙ parsed-encoded 0 (length b) fs (0 ∷ (replicate (509 - length e) 0 ++ xs)) (parsed-zero (replicate (509 - length e) 0 ++ xs)) (f .1) (omega arith)
+
+-- and so are those of a block that reads
+pub reading-fields-of : (b : List ℕ) (fs : List FieldValue) → Block b → reading b ≡ Ok fs → fields-of b ≡ fs
+reading-fields-of b fs k r = layout-fields-of b fs (k .0) (reading-parts b fs r .1)

@@ -97,3 +97,11 @@ sound-from w fs b a t l =
       end = a ∙ ap (λ x. length (encoded x)) e;
       tag = t ∙ ap (last-tag 0) e;
     }
+
+-- the block of legal fields has 512 bytes
+pub length-block-of : (fs : List FieldValue) → Legal 0 fs → length (block-of fs) ≡ 512
+unfolding block-of closed
+length-block-of fs l =
+    let s = encoded-bound fs l in
+    let n = length-padded 510 (encoded fs) (omega arith) in
+    simp length-append (omega arith)

@@ -1,0 +1,5 @@
+pub mod Shapes
+pub mod Fitness
+pub mod Scanning
+pub mod Messages
+pub mod Findings
