@@ -126,6 +126,9 @@ fn refused<W: fmt::Write>(
     let number = refusal.number();
     let text = name.text;
     match (refusal, rule_of(name.tag.number())) {
+        (FieldRefusal::UnlistedLength, Some(Rule { least, most, .. })) if least == most => {
+            write!(f, "{number}: {text} takes {most} bytes")
+        }
         (FieldRefusal::UnlistedLength, Some(Rule { least, most, .. })) => write!(
             f,
             "{number}: {text} takes {least} to {most} bytes"

@@ -3,6 +3,7 @@
 //! The script is read from the file that an argument names, or from standard input. With the word `explain` among the
 //! arguments each answer is followed by what it means. Lines that make no sense are reported and passed over; the
 //! program then ends with an error status.
+mod answers;
 mod faults;
 mod hex;
 mod names;
@@ -11,10 +12,10 @@ mod session;
 mod values;
 mod words;
 
+use crate::answers::Style;
 use crate::faults::LineFaultDisplay;
 use crate::faults::ScriptError;
 use crate::session::Session;
-use crate::session::Style;
 use std::env;
 use std::error::AnyError;
 use std::fs;

@@ -122,10 +122,10 @@ pub(crate) fn named(text: &[u8]) -> Option<Name> {
     None
 }
 
-/// The name of a tag.
-pub(crate) fn name_of(tag: Tag) -> Option<Name> {
+/// The name of the field with this tag, if there is one.
+pub(crate) fn name_of(tag: u16) -> Option<Name> {
     for name in NAMES.iter() {
-        if name.tag.number() == tag.number() {
+        if u16::from(name.tag.number()) == tag {
             return Some(*name);
         }
     }

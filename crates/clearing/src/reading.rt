@@ -1,100 +1,82 @@
-//! Reading the blocks of a message, and printing the fields that they hold.
+//! Reading bytes as a message, and printing what it holds or why they are refused.
+use crate::answers::Style;
 use crate::faults::OutOfMemory;
 use crate::faults::OutOfMemoryFromAlloc;
 use crate::faults::OutOfMemoryFromFormat;
 use crate::names::name_of;
-use crate::session::Style;
 use crate::values::push_value;
 use block::BLOCK;
-use block::check::has_check;
 use block::fields::Fields;
 use block::fields::Part;
-use block::reader::judge;
+use message::read::ReadMessage;
+use message::read::read;
+use message::refusal::Layer;
+use message::refusal::Refusal;
+use message::shapes::Kind;
 use std::fmt::Write;
 
 /// The most blocks of a message: a header and sixteen transactions.
-pub(crate) const MOST_BLOCKS: u8 = 17;
+const MOST_BLOCKS: u8 = 17;
 
-/// Why bytes do not read as blocks: the number of the refusal, the block and the byte.
-#[derive(Clone, Copy)]
-pub(crate) struct Refusal {
-    pub number: u8,
-    pub block: u8,
-    pub place: u16,
-}
-
-impl Refusal {
-    /// The refusal in words.
-    pub(crate) fn meaning(self) -> &'static str {
-        match self.number {
-            1 => "refused: a message has 1 to 17 blocks of 512 bytes",
-            2 => "refused: the last two bytes of the block are not the check of the others",
-            _ =>
-                "refused: at this byte stands no field that may stand there, or a byte that should be zero",
+/// Prints the message that the bytes are, or why they are none.
+pub(crate) fn show_read(out: &mut String, style: Style, bytes: &[u8]) -> Result<(), OutOfMemory> {
+    match read(bytes) {
+        Ok(message) => {
+            show_message(out, style, &message)?;
+            style.answer(out, "read: 0", "the message reads")
         }
+        Err(refusal) => show_refusal(out, style, refusal),
     }
 }
 
-/// Whether bytes are the blocks of a message: their length is judged first, then every check, then every layout.
-pub(crate) fn judge_message(bytes: &[u8]) -> Result<(), Refusal> {
-    let len = bytes.len();
-    if len == 0 || len % BLOCK != 0 || len > usize::from(MOST_BLOCKS) * BLOCK {
-        return Err(Refusal {
-            number: 1,
-            block: 0,
-            place: 0,
-        });
+/// Prints the kind of a message that was read, and its blocks in order.
+fn show_message(out: &mut String, style: Style, message: &ReadMessage) -> Result<(), OutOfMemory> {
+    if let Some(kind) = message.kind() {
+        show_kind(out, style, kind)?;
     }
-    judge_checks(bytes)?;
-    judge_layouts(bytes)
-}
-
-fn judge_checks(bytes: &[u8]) -> Result<(), Refusal> {
-    for (number, chunk) in (0..MOST_BLOCKS).zip(bytes.chunks_exact(BLOCK)) {
+    for (number, chunk) in (0..MOST_BLOCKS).zip(message.bytes().chunks_exact(BLOCK)) {
         if let Ok(block) = <&[u8; BLOCK]>::try_from(chunk) {
-            if !has_check(block) {
-                return Err(Refusal {
-                    number: 2,
-                    block: number,
-                    place: 510,
-                });
-            }
+            show_block(out, style, number, block)?;
         }
     }
     Ok(())
 }
 
-fn judge_layouts(bytes: &[u8]) -> Result<(), Refusal> {
-    for (number, chunk) in (0..MOST_BLOCKS).zip(bytes.chunks_exact(BLOCK)) {
-        if let Ok(block) = <&[u8; BLOCK]>::try_from(chunk) {
-            if let Err(fault) = judge(block) {
-                return Err(Refusal {
-                    number: fault.number(),
-                    block: number,
-                    place: fault.place(),
-                });
-            }
-        }
-    }
-    Ok(())
+fn show_kind(out: &mut String, style: Style, kind: Kind) -> Result<(), OutOfMemory> {
+    let number = kind.number();
+    let (text, iso) = match kind {
+        Kind::Request => ("request to pay", "pain.013"),
+        Kind::Report => ("report on a request", "pain.014"),
+        Kind::Recall => ("recall", "camt.056"),
+        Kind::Reply => ("reply to a recall", "camt.029"),
+    };
+    style.answer(
+        out,
+        format_args!("message: {number} {text}"),
+        format_args!("its ISO name is {iso}"),
+    )
 }
 
-/// Prints the fields of every block, in order.
-pub(crate) fn show_message(
+fn show_block(
     out: &mut String,
     style: Style,
-    bytes: &[u8],
+    number: u8,
+    block: &[u8; BLOCK],
 ) -> Result<(), OutOfMemory> {
-    for (number, chunk) in (0..MOST_BLOCKS).zip(bytes.chunks_exact(BLOCK)) {
-        if let Ok(block) = <&[u8; BLOCK]>::try_from(chunk) {
-            show_block(out, style, Fields::of(block, number))?;
-        }
+    if number == 0 {
+        style.answer(
+            out,
+            "header:",
+            "the fields of block 0 hold for the whole message",
+        )?;
+    } else {
+        style.answer(
+            out,
+            format_args!("transaction: {number}"),
+            format_args!("the fields of block {number} are those of one transaction"),
+        )?;
     }
-    Ok(())
-}
-
-fn show_block(out: &mut String, style: Style, fields: Fields) -> Result<(), OutOfMemory> {
-    let mut fields = fields;
+    let mut fields = Fields::of(block, number);
     while let Ok(Some(part)) = fields.next() {
         show_part(out, style, &part)?;
     }
@@ -102,18 +84,75 @@ fn show_block(out: &mut String, style: Style, fields: Fields) -> Result<(), OutO
 }
 
 fn show_part(out: &mut String, style: Style, part: &Part) -> Result<(), OutOfMemory> {
-    let Some(name) = name_of(part.tag) else {
+    let Some(name) = name_of(u16::from(part.tag.number())) else {
         return Ok(());
     };
     let block = part.block;
     let at = part.at;
     let text = name.text;
+    let meaning = name.meaning;
     write!(out, "field: {block} {at} {text} ")?;
     push_value(out, part)?;
     out.push('\n')?;
-    if let Style::Explained = style {
-        let meaning = name.meaning;
-        writeln!(out, "  the {meaning}, at byte {at} of block {block}")?;
+    style.explain(
+        out,
+        format_args!("the {meaning}, at byte {at} of block {block}"),
+    )
+}
+
+fn show_refusal(out: &mut String, style: Style, refusal: Refusal) -> Result<(), OutOfMemory> {
+    let Refusal {
+        number,
+        layer,
+        block,
+        place,
+    } = refusal;
+    let layer = match layer {
+        Layer::Blocks => "blocks",
+        Layer::Fields => "fields",
+    };
+    writeln!(out, "read: {number} {layer} {block} {place}")?;
+    match number {
+        1 => style.explain(out, "refused: a message has 1 to 17 blocks of 512 bytes"),
+        2 => style.explain(
+            out,
+            "refused: the last two bytes of the block are not the check of the others",
+        ),
+        3 => style.explain(
+            out,
+            "refused: at this byte stands no field that may stand there, or a byte that should be zero",
+        ),
+        _ => explain_field(out, style, refusal),
     }
-    Ok(())
+}
+
+/// Adds what the refusal of a field means, where that is asked for. Its place is the tag of the field.
+fn explain_field(out: &mut String, style: Style, refusal: Refusal) -> Result<(), OutOfMemory> {
+    let Refusal {
+        number,
+        layer: _,
+        block,
+        place: tag,
+    } = refusal;
+    let text = match name_of(tag) {
+        Some(name) => name.text,
+        None => "unknown",
+    };
+    match (number, block, tag) {
+        // In a header the kind is refused only where it gives no shape to judge the other fields by.
+        (4, 0, 1) => style.explain(
+            out,
+            "refused: the kind is missing or not one of 13, 14, 29 and 56",
+        ),
+        (4, _, _) => style.explain(
+            out,
+            format_args!(
+                "refused: the field {text} (tag {tag}) is missing or has no place in the block"
+            ),
+        ),
+        _ => style.explain(
+            out,
+            format_args!("refused: the value of the field {text} (tag {tag}) is not of its form"),
+        ),
+    }
 }

@@ -2,6 +2,7 @@
 ghost use mathlib.Core.Path.{_≡_};
 ghost use Rattle.std.specs.Options.{Cases};
 ghost use Rattle.clearing.specs.Lines.{Nothing-done};
+use crate::answers::Style;
 use crate::faults::LineFault;
 use crate::faults::OutOfMemory;
 use crate::faults::OutOfMemoryFromAlloc;
@@ -14,25 +15,14 @@ use crate::faults::ScriptErrorFromRefused;
 use crate::hex::number;
 use crate::hex::push_all;
 use crate::hex::push_bytes;
-use crate::reading::Refusal;
-use crate::reading::judge_message;
-use crate::reading::show_message;
+use crate::reading::show_read;
 use crate::values::Assigned;
 use crate::values::assignment;
 use crate::values::composed;
 use crate::words::split;
 use block::BLOCK;
 use std::alloc::Global;
-use std::fmt;
 use std::fmt::Write;
-use std::fmt::WriteMethods;
-
-/// How the program answers: a line for each answer, or what it means beside it.
-#[derive(Clone, Copy)]
-pub(crate) enum Style {
-    Terse,
-    Explained,
-}
 
 #[derive(Clone, Copy)]
 enum Command {
@@ -92,25 +82,6 @@ impl Session {
         }
     }
 
-    /// Adds a line with an answer, and what it means.
-    fn answer<D: fmt::Display + Drop>(
-        &self,
-        out: &mut String,
-        answer: D,
-        meaning: &str,
-    ) -> Result<(), OutOfMemory> {
-        out.writeln(answer)?;
-        self.explain(out, meaning)
-    }
-
-    /// Adds what an answer means, where that is asked for.
-    fn explain(&self, out: &mut String, text: &str) -> Result<(), OutOfMemory> {
-        if let Style::Explained = self.style {
-            writeln!(out, "  {text}")?;
-        }
-        Ok(())
-    }
-
     fn add_block(&mut self, words: &[Vec<u8>], out: &mut String) -> Result<(), ScriptError>
         ensures session { λ r. ⌜ Nothing-done r (now (self .entry)) (now (self .exit)) ⌝ }
         ensures out { λ r. ⌜ Nothing-done r (now (out .entry)) (now (out .exit)) ⌝ }
@@ -118,11 +89,12 @@ impl Session {
         let block = composed(assignments(self.heap, words)?.as_slice())?;
         let number = self.message.len() / BLOCK;
         self.message.extend_from_slice(&block)?;
-        self.answer(
-            out,
-            format_args!("block: {number}"),
-            "added to the message, closed with its check",
-        )?;
+        self.style
+            .answer(
+                out,
+                format_args!("block: {number}"),
+                "added to the message, closed with its check",
+            )?;
         Ok(())
     }
 
@@ -140,7 +112,7 @@ impl Session {
             push_all(out, block)?;
             out.push('\n')?;
         }
-        self.explain(
+        self.style.explain(
             out,
             "each block in hex: 510 bytes of fields and zeros, and two bytes of check",
         )
@@ -150,34 +122,11 @@ impl Session {
         ensures out { λ r. ⌜ Nothing-done r (now (out .entry)) (now (out .exit)) ⌝ }
     {
         if words.is_empty() {
-            self.show_read(self.message.as_slice(), out)?;
+            show_read(out, self.style, self.message.as_slice())?;
         } else {
-            self.show_read(given(self.heap, words)?.as_slice(), out)?;
+            show_read(out, self.style, given(self.heap, words)?.as_slice())?;
         }
         Ok(())
-    }
-
-    fn show_read(&self, bytes: &[u8], out: &mut String) -> Result<(), OutOfMemory> {
-        match judge_message(bytes) {
-            Ok(()) => {
-                show_message(out, self.style, bytes)?;
-                self.answer(out, "read: 0", "every block reads")
-            }
-            Err(refusal) => self.show_refusal(refusal, out),
-        }
-    }
-
-    fn show_refusal(&self, refusal: Refusal, out: &mut String) -> Result<(), OutOfMemory> {
-        let Refusal {
-            number,
-            block,
-            place,
-        } = refusal;
-        self.answer(
-            out,
-            format_args!("read: {number} blocks {block} {place}"),
-            refusal.meaning(),
-        )
     }
 
     fn spoil(&mut self, words: &[Vec<u8>], out: &mut String) -> Result<(), ScriptError>
@@ -188,11 +137,12 @@ impl Session {
         let Some(()) = self.set_byte(block, place, value) else {
             return Err(ScriptError::Line(LineFault::NoSuchByte));
         };
-        self.answer(
-            out,
-            format_args!("spoil: {block} {place} {value}"),
-            "the byte is changed and the check is not",
-        )?;
+        self.style
+            .answer(
+                out,
+                format_args!("spoil: {block} {place} {value}"),
+                "the byte is changed and the check is not",
+            )?;
         Ok(())
     }
 
@@ -222,7 +172,8 @@ impl Session {
     {
         takes_nothing(words)?;
         self.message.clear();
-        self.answer(out, "clear: 0", "the message has no block now")?;
+        self.style
+            .answer(out, "clear: 0", "the message has no block now")?;
         Ok(())
     }
 }
