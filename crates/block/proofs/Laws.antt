@@ -132,7 +132,7 @@ scanned-holds (suc n) at p (t ∷ l ∷ bs) fs e =
     (cases-bool (eqb t 0))
 
 -- the first 510 bytes of a block whose layout holds fields
-layout-holds : (b : List ℕ) (fs : List FieldValue) → length b ≡ 512 → layout b ≡ Ok fs → (take 510 b ≡ padded 510 (encoded fs)) × Legal 0 fs
+pub layout-holds : (b : List ℕ) (fs : List FieldValue) → length b ≡ 512 → layout b ≡ Ok fs → (take 510 b ≡ padded 510 (encoded fs)) × Legal 0 fs
 unfolding layout fields-from Holds padded
 layout-holds b fs n e =
     let r = scanned-holds (length (take 510 b)) 0 0 (take 510 b) fs e in

@@ -8,11 +8,13 @@ use crate::values::push_value;
 use block::BLOCK;
 use block::fields::Fields;
 use block::fields::Part;
+use content::decode::Content;
+use content::decode::decode;
+use content::header::Purpose;
 use message::read::ReadMessage;
 use message::read::read;
 use message::refusal::Layer;
 use message::refusal::Refusal;
-use message::shapes::Kind;
 use std::fmt::Write;
 
 /// The most blocks of a message: a header and sixteen transactions.
@@ -31,8 +33,8 @@ pub(crate) fn show_read(out: &mut String, style: Style, bytes: &[u8]) -> Result<
 
 /// Prints the kind of a message that was read, and its blocks in order.
 fn show_message(out: &mut String, style: Style, message: &ReadMessage) -> Result<(), OutOfMemory> {
-    if let Some(kind) = message.kind() {
-        show_kind(out, style, kind)?;
+    if let Some(content) = decode(message) {
+        show_kind(out, style, &content)?;
     }
     for (number, chunk) in (0..MOST_BLOCKS).zip(message.bytes().chunks_exact(BLOCK)) {
         if let Ok(block) = <&[u8; BLOCK]>::try_from(chunk) {
@@ -42,18 +44,21 @@ fn show_message(out: &mut String, style: Style, message: &ReadMessage) -> Result
     Ok(())
 }
 
-fn show_kind(out: &mut String, style: Style, kind: Kind) -> Result<(), OutOfMemory> {
-    let number = kind.number();
-    let (text, iso) = match kind {
-        Kind::Request => ("request to pay", "pain.013"),
-        Kind::Report => ("report on a request", "pain.014"),
-        Kind::Recall => ("recall", "camt.056"),
-        Kind::Reply => ("reply to a recall", "camt.029"),
+fn show_kind(out: &mut String, style: Style, content: &Content) -> Result<(), OutOfMemory> {
+    let (number, text, iso) = match content.header.purpose {
+        Purpose::Request { .. } => (13, "request to pay", "pain.013"),
+        Purpose::Report(_) => (14, "report on a request", "pain.014"),
+        Purpose::Recall(_) => (56, "recall", "camt.056"),
+        Purpose::Reply(_) => (29, "reply to a recall", "camt.029"),
     };
+    let count = content.transactions().len();
+    let announced = content.header.number;
     style.answer(
         out,
         format_args!("message: {number} {text}"),
-        format_args!("its ISO name is {iso}"),
+        format_args!(
+            "its ISO name is {iso}; it has {count} transactions, and its header says {announced}"
+        ),
     )
 }
 

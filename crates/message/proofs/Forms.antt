@@ -24,14 +24,10 @@ use Rattle.message.specs.declared.refusal.Location.{Location}
 use Rattle.message.specs.declared.refusal.Layer.{Layer}
 use Rattle.message.specs.declared.refusal.Layer.the-variants.{Blocks, Fields}
 use Rattle.message.specs.Messages.{MessageReading, blocks, blocks-of, whole, held, located, first-fault, check-fault, broken-at, layout-fault, values-fault, kind-by, message-kind, kind-in, first-tags-fault, unless, judged-fields, block-fields, judged-blocks, read-message, written-as, All-legal, Written-reads-back, Only-message}
-use Rattle.message.proofs.Cutting.{blocks-of-more, blocks-of-end}
+use Rattle.message.proofs.Cutting.{blocks-of-more}
+use Rattle.message.proofs.Gathering.{located-none}
 
--- a fault in none of the blocks is none in the first and none in the others
-located-none : (n : ℕ) (o : Option ℕ) (r : Option Location) → orOther (located n o) r ≡ None → (o ≡ None) × (r ≡ None)
-located-none n None r e = (refl, e)
-located-none n (Some p) r e = absurd (let z : _≡_ {A = ℕ} 0 1 = cc in omega arith)
-
-not-broken : (v : Reading) → broken-at v ≡ None → v ≡ Ok (held v)
+pub not-broken : (v : Reading) → broken-at v ≡ None → v ≡ Ok (held v)
 not-broken (Ok fs) e = refl
 not-broken (Err x) e = absurd (let z : _≡_ {A = ℕ} 0 1 = cc in omega arith)
 
@@ -90,17 +86,17 @@ blocks-form (suc n) k xs h e c l =
     ∙ ap (λ x. block-of (held (layout b)) ++ x) (blocks-form n (k + 1) (drop 512 xs) (drop-bytes 512 xs h) (omega (arith, e, length-drop 512 xs)) (p .1) (q .1))
 
 -- what is not refused was found without a fault
-unless-ok : (o : Option Location) (number : ℕ) (layer : Layer) (r : MessageReading) (fss : List (List FieldValue)) → unless o number layer r ≡ Ok fss → (o ≡ None) × (r ≡ Ok fss)
+pub unless-ok : (o : Option Location) (number : ℕ) (layer : Layer) (r : MessageReading) (fss : List (List FieldValue)) → unless o number layer r ≡ Ok fss → (o ≡ None) × (r ≡ Ok fss)
 unless-ok None number layer r fss e = (refl, e)
 unless-ok (Some x) number layer r fss e = absurd (let z : _≡_ {A = ℕ} 0 1 = cc in omega arith)
 
-fields-ok : (fss gss : List (List FieldValue)) → judged-fields fss ≡ Ok gss → fss ≡ gss
+pub fields-ok : (fss gss : List (List FieldValue)) → judged-fields fss ≡ Ok gss → fss ≡ gss
 fields-ok fss gss e =
     let a = unless-ok (first-tags-fault (kind-in fss) fss) 4 Fields _ gss e in
     let b = unless-ok (first-fault values-fault 0 fss) 5 Fields (Ok fss) gss (a .1) in
     let q = b .1 in cc
 
-read-whole : (xs : List ℕ) (fss : List (List FieldValue)) → read-message xs ≡ Ok fss → (whole xs ≡ true) × (judged-blocks (blocks-of xs) ≡ Ok fss)
+pub read-whole : (xs : List ℕ) (fss : List (List FieldValue)) → read-message xs ≡ Ok fss → (whole xs ≡ true) × (judged-blocks (blocks-of xs) ≡ Ok fss)
 unfolding read-message
 read-whole xs fss e =
     ⊎-elim (λ (t : whole xs ≡ true). (t, sym (cond-true (whole xs) _ _ t) ∙ e))

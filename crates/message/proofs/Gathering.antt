@@ -49,7 +49,7 @@ gathered-layout k n (b ∷ bs) f =
     ∙ or-assoc (f .layout) (located n (broken-at (layout b))) (first-fault layout-fault (n + 1) bs)
 
 -- where there is no fault in all blocks, there is none in the first nor in the others
-located-none : (n : ℕ) (o : Option ℕ) (r : Option Location) → orOther (located n o) r ≡ None → (o ≡ None) × (r ≡ None)
+pub located-none : (n : ℕ) (o : Option ℕ) (r : Option Location) → orOther (located n o) r ≡ None → (o ≡ None) × (r ≡ None)
 located-none n None r e = (refl, e)
 located-none n (Some p) r e = absurd (let z : _≡_ {A = ℕ} 0 1 = cc in omega arith)
 

@@ -4,3 +4,4 @@ pub mod Cutting
 pub mod Gathering
 pub mod Forms
 pub mod Refusing
+pub mod Presence

@@ -1,0 +1,5 @@
+pub mod Lengths
+pub mod Chaining
+pub mod Collecting
+pub mod Fronts
+pub mod Completing

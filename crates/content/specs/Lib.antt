@@ -1,0 +1,4 @@
+pub mod Records
+pub mod Views
+pub mod Items
+pub mod Decoding
