@@ -56,9 +56,7 @@ fn show_kind(out: &mut String, style: Style, content: &Content) -> Result<(), Ou
     style.answer(
         out,
         format_args!("message: {number} {text}"),
-        format_args!(
-            "its ISO name is {iso}; it has {count} transactions, and its header says {announced}"
-        ),
+        format_args!("its ISO name is {iso}; transactions: {count}, by its header: {announced}"),
     )
 }
 
