@@ -12,10 +12,9 @@ use Rattle.block.specs.Fields.{FieldValue, fields-of}
 use Rattle.block.specs.Reading.{layout}
 use Rattle.block.proofs.Laws.{layout-fields-of, layout-holds}
 use Rattle.message.specs.declared.refusal.Refusal.{Refusal}
-use Rattle.message.specs.declared.refusal.Layer.the-variants.{Blocks}
-use Rattle.message.specs.Messages.{MessageReading, blocks, blocks-of, held, first-fault, check-fault, broken-at, layout-fault, judged-fields, block-fields, read-message, All-legal}
+use Rattle.message.specs.Messages.{MessageReading, blocks, blocks-of, held, first-fault, broken-at, layout-fault, judged-fields, block-fields, read-message, All-legal}
 use Rattle.message.specs.Findings.{refused}
-use Rattle.message.proofs.Forms.{not-broken, unless-ok, fields-ok, read-whole, whole-parts}
+use Rattle.message.proofs.Forms.{not-broken, faultless}
 use Rattle.message.proofs.Gathering.{located-none}
 use Rattle.content.specs.Items.{given}
 use Rattle.content.specs.Decoding.{content-in, decoded}
@@ -41,15 +40,9 @@ pub record Held (xs : List ℕ) (fss : List (List FieldValue)) : Type 0 where
 pub read-holds : (xs : List ℕ) (fss : List (List FieldValue)) → read-message xs ≡ Ok fss → Held xs fss
 unfolding blocks-of
 read-holds xs fss e =
-    let w = read-whole xs fss e in
-    let p = whole-parts xs (w .0) in
-    let n = length xs / 512 in
-    let l : length xs ≡ n * 512 = omega (arith, p .1) in
-    let a = unless-ok (first-fault check-fault 0 (blocks n xs)) 2 Blocks _ fss (w .1) in
-    let b = unless-ok (first-fault layout-fault 0 (blocks n xs)) 3 Blocks _ fss (a .1) in
-    let f = fields-ok (map block-fields (blocks n xs)) fss (b .1) in
-    let r = fields-front n 0 xs l (b .0) in
-    record { short = p .2; fronts = sym f ∙ r .0; legal = rw f at (r .1); judged = sym (ap judged-fields f) ∙ b .1 }
+    let g = faultless xs fss e in
+    let r = fields-front (length xs / 512) 0 xs (g .size) (g .layouts) in
+    record { short = g .short; fronts = sym (g .fields) ∙ r .0; legal = rw (g .fields) at (r .1); judged = g .judged }
 
 not-refused : (m : MessageReading) → refused m ≡ None → (fss : List (List FieldValue)) × (m ≡ Ok fss)
 not-refused (Ok fss) e = (fss, refl)

@@ -90,31 +90,45 @@ pub unless-ok : (o : Option Location) (number : ℕ) (layer : Layer) (r : Messag
 unless-ok None number layer r fss e = (refl, e)
 unless-ok (Some x) number layer r fss e = absurd (let z : _≡_ {A = ℕ} 0 1 = cc in omega arith)
 
-pub fields-ok : (fss gss : List (List FieldValue)) → judged-fields fss ≡ Ok gss → fss ≡ gss
+fields-ok : (fss gss : List (List FieldValue)) → judged-fields fss ≡ Ok gss → fss ≡ gss
 fields-ok fss gss e =
     let a = unless-ok (first-tags-fault (kind-in fss) fss) 4 Fields _ gss e in
     let b = unless-ok (first-fault values-fault 0 fss) 5 Fields (Ok fss) gss (a .1) in
     let q = b .1 in cc
 
-pub read-whole : (xs : List ℕ) (fss : List (List FieldValue)) → read-message xs ≡ Ok fss → (whole xs ≡ true) × (judged-blocks (blocks-of xs) ≡ Ok fss)
+read-whole : (xs : List ℕ) (fss : List (List FieldValue)) → read-message xs ≡ Ok fss → (whole xs ≡ true) × (judged-blocks (blocks-of xs) ≡ Ok fss)
 unfolding read-message
 read-whole xs fss e =
     ⊎-elim (λ (t : whole xs ≡ true). (t, sym (cond-true (whole xs) _ _ t) ∙ e))
     (λ (t : whole xs ≡ false). let q : Err (record { number = 1; layer = Blocks; block = 0; place = 0 }) ≡ Ok fss = rw t at e in absurd (let z : _≡_ {A = ℕ} 0 1 = cc in omega arith))
     (cases-bool (whole xs))
 
--- bytes that read are what their fields are written as
-read-form : (xs : List ℕ) (fss : List (List FieldValue)) → ((i : ℕ) → getD xs i 0 < 256) → read-message xs ≡ Ok fss → xs ≡ written-as fss
+-- what is known of bytes that read: they are n whole blocks, none with a fault of check or layout, and their fields are judged right
+pub record Faultless (xs : List ℕ) (fss : List (List FieldValue)) (n : ℕ) : Type 0 where
+  pub size : length xs ≡ n * 512
+  pub short : length xs ≤ 8704
+  pub checks : first-fault check-fault 0 (blocks n xs) ≡ None
+  pub layouts : first-fault layout-fault 0 (blocks n xs) ≡ None
+  pub fields : map block-fields (blocks n xs) ≡ fss
+  pub judged : judged-fields fss ≡ Ok fss
+
+pub faultless : (xs : List ℕ) (fss : List (List FieldValue)) → read-message xs ≡ Ok fss → Faultless xs fss (length xs / 512)
 unfolding blocks-of
-read-form xs fss h e =
+faultless xs fss e =
     let w = read-whole xs fss e in
     let p = whole-parts xs (w .0) in
     let n = length xs / 512 in
-    let l : length xs ≡ n * 512 = omega (arith, p .1) in
     let a = unless-ok (first-fault check-fault 0 (blocks n xs)) 2 Blocks _ fss (w .1) in
     let b = unless-ok (first-fault layout-fault 0 (blocks n xs)) 3 Blocks _ fss (a .1) in
     let f = fields-ok (map block-fields (blocks n xs)) fss (b .1) in
-    sym (blocks-joined n xs l) ∙ blocks-form n 0 xs h l (a .0) (b .0) ∙ ap (joined block-of) f
+    record { size = omega (arith, p .1); short = p .2; checks = a .0; layouts = b .0; fields = f; judged = sym (ap judged-fields f) ∙ b .1 }
+
+-- bytes that read are what their fields are written as
+read-form : (xs : List ℕ) (fss : List (List FieldValue)) → ((i : ℕ) → getD xs i 0 < 256) → read-message xs ≡ Ok fss → xs ≡ written-as fss
+read-form xs fss h e =
+    let n = length xs / 512 in
+    let g = faultless xs fss e in
+    sym (blocks-joined n xs (g .size)) ∙ blocks-form n 0 xs h (g .size) (g .checks) (g .layouts) ∙ ap (joined block-of) (g .fields)
 
 pub only-message : (xs : List ℕ) → ((i : ℕ) → getD xs i 0 < 256) → Only-message xs
 only-message xs h other fss k e f = read-form other fss k f ∙ sym (read-form xs fss h e)
