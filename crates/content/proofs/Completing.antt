@@ -34,7 +34,6 @@ use Rattle.message.proofs.Gathering.{located-none}
 use Rattle.content.specs.Records.{request, recall, report, reply, requested, recalled}
 use Rattle.content.specs.Items.{given, if-given, read-byte, read-number, read-raw-identifier, byte-in, number-in, identifier-in, creation-date-in, member-code-in, uetr-in, end-to-end-in, amount-in, status-in, reason-in, text-in}
 use Rattle.content.specs.Decoding.{original-in, purpose-in, header-in, answer-in, detail-in, transaction-in, transactions-in, header-kind, content-of, content-in, decoded}
-use Rattle.content.proofs.Lengths.{byte-reads, number-reads}
 use Rattle.content.proofs.Chaining.{given-some}
 use Rattle.content.proofs.Fronts.{read-holds}
 
@@ -43,6 +42,17 @@ only-length : (k n : ℕ) → (leb k n && leb n k) ≡ true → n ≡ k
 only-length k n e =
     let a = and-parts (leb k n) (leb n k) e in
     omega (arith, leb-true k n (a .0), leb-true n k (a .1))
+
+byte-reads : (v : List ℕ) → length v ≡ 1 → isSome (read-byte v) ≡ true
+byte-reads [] e = absurd (omega (arith, e))
+byte-reads (n ∷ []) e = refl
+byte-reads (n ∷ m ∷ ns) e = absurd (omega (arith, e))
+
+number-reads : (v : List ℕ) → length v ≡ 2 → isSome (read-number v) ≡ true
+number-reads [] e = absurd (omega (arith, e))
+number-reads (h ∷ []) e = absurd (omega (arith, e))
+number-reads (h ∷ l ∷ []) e = refl
+number-reads (h ∷ l ∷ n ∷ ns) e = absurd (omega (arith, e))
 
 kept-reads : (fit : Bool) (v : List ℕ) → fit ≡ true → isSome (kept fit v) ≡ true
 kept-reads fit v e = is-some-kept fit v ∙ e
@@ -68,10 +78,6 @@ module _ (k : Kind) (n : ℕ) (fs : List FieldValue) (legal : Legal 0 fs) (tags 
 
   may-stand : {B : Type 0} (t : Tag) (next : List ℕ → Option B) → ((v : List ℕ) → fits t v ≡ true → isSome (next v) ≡ true) → isSome (if-given (value-of (number-of t) fs) next) ≡ true
   may-stand t next h = optional-field t next (value-of (number-of t) fs) (fit-value t 0 fs legal values) h
-
-  kind-stands : demanded k n 1 ≡ true → isSome (byte-in 1 fs) ≡ true
-  unfolding byte-in listed
-  kind-stands d = stands tag.Kind read-byte d (λ v f l. byte-reads v (only-length 1 (length v) l))
 
   identifier-stands : demanded k n 2 ≡ true → isSome (identifier-in 2 fs) ≡ true
   unfolding identifier-in listed

@@ -1,4 +1,3 @@
-pub mod Lengths
 pub mod Chaining
 pub mod Collecting
 pub mod Fronts
