@@ -8,6 +8,8 @@ use block::BLOCK;
 use block::BODY;
 use block::check::check_of;
 use block::writer::BlockWriter;
+use content::decode::decode;
+use message::read::ReadMessage;
 use message::read::read;
 use message::refusal::Layer;
 use std::alloc::Global;
@@ -148,10 +150,24 @@ fn with_bytes(changes: &[Change], number: usize, written: [u8; BLOCK]) -> [u8; B
     block
 }
 
+/// A message that reads has a content, with a transaction for each block behind the header.
+fn has_content(message: &ReadMessage) -> Result<(), Fail> {
+    match decode(message) {
+        Some(content) => check_eq(
+            (content.transactions().len() + 1) * BLOCK,
+            message.bytes().len(),
+        ),
+        None => Err(Fail::new("no content")),
+    }
+}
+
 /// The number, the block and the place of a refusal, or zeros where the bytes read. Its layer is that of its number.
 fn judged(bytes: &[u8]) -> Result<(u8, u8, u16), Fail> {
     match read(bytes) {
-        Ok(_) => Ok((0, 0, 0)),
+        Ok(message) => {
+            has_content(&message)?;
+            Ok((0, 0, 0))
+        }
         Err(refusal) => {
             check_eq(
                 match refusal.layer {
