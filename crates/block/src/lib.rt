@@ -2,6 +2,8 @@
 //!
 //! `check` sums a block up, `reader` takes a block apart and judges it, and `writer` makes one. Which fields a block may hold
 //! is listed in the crate `tags`.
+#![tactic(auto)]
+
 pub mod check;
 pub mod fields;
 pub mod reader;

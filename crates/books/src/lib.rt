@@ -2,6 +2,8 @@
 //!
 //! `book` has the interface that every form of a book meets, `refusal` why a book refuses, and `scan` and `totals` what can be asked
 //! of any book. The forms have crates of their own.
+#![tactic(auto)]
+
 pub mod book;
 pub mod refusal;
 pub mod scan;

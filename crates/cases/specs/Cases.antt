@@ -1,6 +1,6 @@
 -- Cases as plain values: bytes stand as they were written, numbers as numbers.
 use Rattle.std.specs.Prelude.{ℕ, Bool, ◌&&◌, List}
-use Rattle.bytes.specs.Bytes.{same_bytes}
+use Rattle.octets.specs.Bytes.{same_bytes}
 
 -- the name of a case: the identifier of the message that opened it, and the reference of its transaction
 pub record NameValue : Type 0 where

@@ -3,6 +3,8 @@
 //! The script is read from the file that an argument names, or from standard input. With the word `explain` among the
 //! arguments each answer is followed by what it means. Lines that make no sense are reported and passed over; the
 //! program then ends with an error status.
+#![tactic(auto)]
+
 mod answers;
 mod book_answers;
 mod book_words;

@@ -1,7 +1,7 @@
 -- The fields of a fit case give that case again.
 use Rattle.std.proofs.Common.{◌≡◌, ℕ, Bool, true, false, cond, eqb, List, [], ◌∷◌, ◌++◌, length, is_some, IfSome, Some, None, Option, sym, refl, ap, ◌∙◌, ⊎_elim, arith}
 use Rattle.std.proofs.lemmas.Bool.{eq-eqb, eqb-true, cases_Bool, true≢false}
-use Rattle.bytes.specs.Bytes.{kept}
+use Rattle.octets.specs.Bytes.{kept}
 use Rattle.block.specs.Fields.{FieldValue, value_of}
 use Rattle.block.specs.Following.{given}
 use Rattle.block.proofs.Chaining.{given-some}

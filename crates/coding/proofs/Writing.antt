@@ -1,7 +1,7 @@
 -- The fields of a fit case may be written.
 use Rattle.std.proofs.Common.{◌≡◌, ℕ, ◌<◌, true, ◌&&◌, eqb, leb, List, [], ◌∷◌, ◌++◌, length, IfSome, Some, None, Option, sym, refl, ap, ◌∙◌, ⊎_elim, arith, lit<}
 use Rattle.std.proofs.lemmas.Bool.{eqb-true, and_parts, and_from, cases_eq, true≢false}
-use Rattle.bytes.specs.Bytes.{same_bytes, every, is_digit, is_printable}
+use Rattle.octets.specs.Bytes.{same_bytes, every, is_digit, is_printable}
 use Rattle.tags.specs.Tags.{rule_of, admitted, listed}
 use Rattle.block.specs.Fields.{FieldValue, Legal}
 use Rattle.values.specs.Codes.{member_code, uetr}

@@ -1,4 +1,6 @@
 //! A case as a block: just the fields that the case holds, closed with the check.
+#![tactic(auto)]
+
 ghost use Rattle.std.specs.Prelude.{◌≡◌, ◌<◌, true, [], ◌∷◌, ◌++◌, length, MatchOption, ◌≢◌};
 ghost use Rattle.std.specs.Option.{option_map};
 ghost use Rattle.tags.specs.Tags.{number_of, listed};
@@ -12,7 +14,7 @@ ghost use Rattle.coding.specs.Decoding.{formed_identifier_in, name_in, original_
 
 use block::BLOCK;
 use block::writer::BlockWriter;
-use bytes::same_bytes;
+use octets::same_bytes;
 use cases::case::{Case, CaseName, Original, OriginalKind, State, Subject};
 use items::{amount, byte, end_to_end, identifier, member_code, uetr};
 use tags::listing::Tag;

@@ -7,12 +7,12 @@ use Rattle.tags.specs.declared.listing.Tag.TheVariants as tag
 use Rattle.tags.specs.Tags.{number_of, listed}
 use Rattle.block.specs.Fields.{FieldValue, Legal, value_of}
 use Rattle.block.specs.Following.{given, if_given}
-use Rattle.bytes.specs.Bytes.{kept}
+use Rattle.octets.specs.Bytes.{kept}
 use Rattle.values.specs.Codes.{member_code, uetr, status, reason, read_member_code, read_uetr, read_status, read_reason}
 use Rattle.values.specs.Texts.{end_to_end, text, read_end_to_end, read_text}
 use Rattle.values.specs.Amounts.{read_amount}
 use Rattle.dates.specs.Dates.{read_date}
-use Rattle.bytes.proofs.Parts.{is_some_kept, is_some_mapped}
+use Rattle.octets.proofs.Parts.{is_some_kept, is_some_mapped}
 use Rattle.message.specs.declared.shapes.Kind.{Kind}
 use Rattle.message.specs.declared.shapes.Kind.TheVariants.{Request, Report, Reply, Recall}
 use Rattle.message.specs.declared.refusal.Layer.TheVariants.{Fields}

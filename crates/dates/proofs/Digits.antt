@@ -4,11 +4,11 @@ use native.Mathlib.Nat.{div-div-eq-div-mul}
 use Rattle.std.specs.Option.{option_map}
 use Rattle.std.proofs.lemmas.Bool.{cond-true, cond-false, and_parts, eqb-true, cases_Bool}
 use Rattle.std.proofs.lemmas.Bool.Decides.{nat_tests}
-use Rattle.bytes.specs.Bytes.{is_digit, every, kept}
+use Rattle.octets.specs.Bytes.{is_digit, every, kept}
 use Rattle.dates.specs.Dates.{DateValue, date, date_of, real_date, real_only, read_date, digit, date_digits}
 use Rattle.dates.specs.Views.{view}
 use Rattle.dates.specs.declared.date.Date.{Date}
-use Rattle.bytes.proofs.Parts.{first_eight, eight, every_at, kept-some}
+use Rattle.octets.proofs.Parts.{first_eight, eight, every_at, kept-some}
 use Rattle.dates.proofs.Dates.{Real, real_parts, month_length_most, equal}
 
 -- the number that the digits at i and i + 1 write

@@ -1,7 +1,7 @@
 -- Dates of the Gregorian calendar from 2000 to 2099.
 use Rattle.std.specs.Prelude.{◌≡◌, ℕ, ◌+◌, ◌-◌, ◌/◌, ◌%◌, Bool, true, false, cond, not, ◌&&◌, ◌||◌, ◌⊎◌, List, [], ◌∷◌, map, length, take, drop, Some, None, Option, ◌==◌, nat_le, nat_lt}
 use Rattle.std.specs.Int.Digits.{number_from_digits}
-use Rattle.bytes.specs.Bytes.{is_digit, every}
+use Rattle.octets.specs.Bytes.{is_digit, every}
 
 -- a year, a month from 1 on and a day from 1 on
 pub record DateValue : Type 0 where

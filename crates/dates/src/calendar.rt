@@ -1,12 +1,12 @@
 //! The calendar: reading and writing dates, their order, and the day before.
 ghost use Rattle.std.specs.Prelude.{◌≡◌, ◌+◌, ◌-◌, ◌*◌, true, IfSome, Some};
 ghost use Rattle.std.specs.Option.{option_map};
-ghost use Rattle.bytes.specs.Bytes.{is_digit};
+ghost use Rattle.octets.specs.Bytes.{is_digit};
 ghost use Rattle.dates.specs.Dates.{date, leap_year, month_length, real_only, read_date, digit, date_digits, earlier, OneUnlessEarlier, day_before, LastBefore};
 ghost use Rattle.dates.specs.Views.{view};
 
 use crate::date::Date;
-use bytes::{Alphabet, read_exactly};
+use octets::{Alphabet, read_exactly};
 
 /// The first year of which a date may be.
 const FIRST_YEAR: u16 = 2000;

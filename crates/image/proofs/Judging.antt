@@ -5,7 +5,7 @@ use Rattle.std.proofs.ByRecursion.{All-push, All-take}
 use Rattle.std.proofs.lemmas.List.{append_assoc, length-append, length-replicate, length_push, length-take-le, take-append-drop, take_at, drop_at, drop-drop, drop-replicate, flat_map_more}
 use Rattle.std.proofs.lemmas.Option.{slice_get-get_or}
 use Rattle.std.proofs.lemmas.Bool.{and_parts, and_from, eqb-true, eq-eqb, cases_lt, true≢false}
-use Rattle.bytes.specs.Bytes.{every}
+use Rattle.octets.specs.Bytes.{every}
 use Rattle.block.specs.Fields.{fields_of}
 use Rattle.table.specs.Lists.{place}
 use Rattle.table.proofs.Bridges.{place_none}

@@ -2,7 +2,7 @@
 use Rattle.std.specs.Prelude.{◌≡◌, ℕ, zero, suc, ◌-◌, ◌*◌, ◌/◌, ◌%◌, ◌≤◌, Bool, true, false, ◌&&◌, List, [], ◌∷◌, ◌++◌, length, take, drop, replicate, Some, None, Option, ◌==◌, nat_eq}
 use Rattle.std.specs.List.{flat_map, AllByRecursion as All}
 use Rattle.std.specs.Option.{unwrap_or}
-use Rattle.bytes.specs.Bytes.{same_bytes, every}
+use Rattle.octets.specs.Bytes.{same_bytes, every}
 use Rattle.block.specs.Fields.{fields_of, value_of}
 use Rattle.cases.specs.Cases.{NameValue, CaseValue}
 use Rattle.cases.specs.Vacant.{vacant}

@@ -12,7 +12,7 @@ ghost use Rattle.image.specs.Image.{is_value, named};
 
 use block::BLOCK;
 use block::reader::value;
-use bytes::same_bytes;
+use octets::same_bytes;
 use cases::case::{Case, CaseName};
 use coding::{case_block, read_case};
 use tags::listing::Tag;

@@ -2,7 +2,7 @@
 use Rattle.std.specs.Prelude.{ℕ, List, [], ◌∷◌, length, Some, None, Option, ◌==◌}
 use Rattle.block.specs.Fields.{FieldValue, value_of}
 use Rattle.block.specs.Following.{given}
-use Rattle.bytes.specs.Bytes.{kept}
+use Rattle.octets.specs.Bytes.{kept}
 use Rattle.values.specs.Codes.{read_member_code, read_uetr}
 use Rattle.values.specs.Texts.{read_end_to_end}
 use Rattle.values.specs.Amounts.{read_amount}

@@ -1,5 +1,7 @@
 //! One value of a block: what the field of a tag holds. These are the values that messages and cases share.
 //! `None` says that there is no such field or that its value is unfit.
+#![tactic(auto)]
+
 ghost use Rattle.std.specs.Prelude.{◌≡◌};
 ghost use Rattle.std.specs.Option.{option_map};
 ghost use Rattle.tags.specs.Tags.{number_of};

@@ -1,4 +1,6 @@
 //! Messages: their kinds, the fields of their blocks, and reading.
+#![tactic(auto)]
+
 mod findings;
 mod fitness;
 pub mod read;

@@ -1,4 +1,6 @@
 //! The book that keeps its cases as rows in lent memory.
+#![tactic(auto)]
+
 ghost use Rattle.std.specs.Prelude.{◌≡◌, false, [], length, MatchResult};
 ghost use Rattle.books.specs.declared.refusal.BookRefusal.TheVariants.{NoBook};
 ghost use Rattle.books.specs.Books.{fit_capacity};

@@ -2,6 +2,8 @@
 //!
 //! A table means the rows that were added, in their order; its limit is the number of rows that it was lent. What is found,
 //! added and replaced is the same for every type of row, so it is proved once.
+#![tactic(auto)]
+
 ghost use Rattle.std.specs.Prelude.{◌≡◌, ◌≤◌, Bool, [], ◌∷◌, ◌++◌, length, is_ok, if◌then◌else◌, slice_set};
 ghost use Rattle.std.specs.List.{slice_get};
 ghost use Rattle.table.specs.Lists.{place, first, any};

@@ -4,7 +4,7 @@ use block::{BLOCK, BODY};
 use books::book::CaseBook;
 use books::refusal::BookRefusal;
 use books::totals::totals_of;
-use bytes::same_bytes;
+use octets::same_bytes;
 use cases::case::{Case, CaseName, Original, OriginalKind, State, Subject};
 use cases::state::Status;
 use coding::{case_block, exact_case, read_case};

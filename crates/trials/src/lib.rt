@@ -1,4 +1,6 @@
 //! Examples: those that are shown of the definitions stand in one table, the others are run as tests.
+#![tactic(auto)]
+
 ghost use Rattle.std.specs.Prelude.{◌≡◌, length};
 ghost use Rattle.trials.specs.Examples.{examples, AllHold};
 

@@ -1,5 +1,5 @@
 //! Values, run at the edges of what is fit.
-use bytes::same_bytes;
+use octets::same_bytes;
 use dates::date::Date;
 use std::test::*;
 use values::amount::Amount;

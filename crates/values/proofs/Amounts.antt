@@ -5,7 +5,7 @@ use Rattle.std.specs.Int.Digits.{number_from_digits}
 use Rattle.std.proofs.lemmas.Bool.{cond-true, cond-false, cases_Bool, and_parts, leb-true}
 use Rattle.values.specs.Amounts.{amount, amount_of, read_amount, amount_bytes}
 use Rattle.values.specs.declared.amount.Amount.{Amount}
-use Rattle.bytes.proofs.Parts.{eight}
+use Rattle.octets.proofs.Parts.{eight}
 
 -- the number that eight bytes write, place by place
 pub number_places : (bs : List ℕ) → length bs ≡ 8 → number_from_digits 256 bs ≡ get_or bs 0 0 * 72057594037927936 + get_or bs 1 0 * 281474976710656 + get_or bs 2 0 * 1099511627776 + get_or bs 3 0 * 4294967296 + get_or bs 4 0 * 16777216 + get_or bs 5 0 * 65536 + get_or bs 6 0 * 256 + get_or bs 7 0

@@ -3,7 +3,7 @@ use Rattle.std.proofs.Common.{◌≡◌, ℕ, true, false, ◌&&◌, List, lengt
 use Rattle.std.proofs.lemmas.Slice.Eq.{compares_Decides}
 use Rattle.std.proofs.lemmas.List.{take_all, length-drop}
 use Rattle.std.proofs.lemmas.Bool.{eq-eqb, ne_eqb}
-use Rattle.bytes.specs.Bytes.{same_bytes, every, is_capital_or_digit}
+use Rattle.octets.specs.Bytes.{same_bytes, every, is_capital_or_digit}
 use Rattle.values.specs.Codes.{member_code}
 use Rattle.dates.specs.Dates.{DateValue, real_date, read_date, date_digits}
 use Rattle.dates.proofs.Digits.{reads_back, only_form}

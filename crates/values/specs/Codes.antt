@@ -1,6 +1,6 @@
 -- The values that are read as they stand: member codes, references, statuses and reasons.
 use Rattle.std.specs.Prelude.{ℕ, Bool, not, ◌&&◌, List, length, replicate, Option, ◌==◌}
-use Rattle.bytes.specs.Bytes.{is_digit, is_capital_or_digit, every, kept, same_bytes}
+use Rattle.octets.specs.Bytes.{is_digit, is_capital_or_digit, every, kept, same_bytes}
 
 -- a member's code: six digits
 abbrev pub member_code : List ℕ → Bool

@@ -1,6 +1,6 @@
 -- Identifiers of messages and payments.
 use Rattle.std.specs.Prelude.{ℕ, Bool, ◌&&◌, List, length, take, drop, is_some, Option, ◌==◌}
-use Rattle.bytes.specs.Bytes.{is_capital_or_digit, every, kept, same_bytes}
+use Rattle.octets.specs.Bytes.{is_capital_or_digit, every, kept, same_bytes}
 use Rattle.values.specs.Codes.{member_code}
 use Rattle.dates.specs.Dates.{DateValue, read_date, date_digits}
 

@@ -1,6 +1,6 @@
 -- Texts of printable characters.
 use Rattle.std.specs.Prelude.{ℕ, ◌-◌, Bool, ◌&&◌, List, ◌++◌, length, replicate, Option, nat_le}
-use Rattle.bytes.specs.Bytes.{is_printable, every, kept}
+use Rattle.octets.specs.Bytes.{is_printable, every, kept}
 
 -- the bytes bs and then zeros, w in all
 unfoldable pub padded : ℕ → List ℕ → List ℕ

@@ -6,7 +6,7 @@ ghost use Rattle.values.specs.Identifiers.{date_part, identifier, read_identifie
 ghost use Rattle.dates.specs.Views.{view};
 
 use crate::member_code::MemberCode;
-use bytes::{Alphabet, same_bytes};
+use octets::{Alphabet, same_bytes};
 use dates::date::Date;
 
 /// How many bytes an identifier has.

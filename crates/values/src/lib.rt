@@ -2,6 +2,8 @@
 //!
 //! A value is read from bytes, where `None` says that they are unfit, and gives its bytes back. Each module has one kind of
 //! value; dates have a crate of their own.
+#![tactic(auto)]
+
 pub mod amount;
 pub mod identifier;
 pub mod member_code;

@@ -3,7 +3,7 @@ ghost use Rattle.std.specs.Prelude.{◌≡◌, true};
 ghost use Rattle.std.specs.Option.{option_map};
 ghost use Rattle.values.specs.Codes.{member_code, read_member_code};
 
-use bytes::{Alphabet, read_exactly};
+use octets::{Alphabet, read_exactly};
 
 /// The code of a member: six ASCII digits.
 #[derive(Clone, Copy)]

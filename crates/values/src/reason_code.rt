@@ -3,7 +3,7 @@ ghost use Rattle.std.specs.Prelude.{◌≡◌, true};
 ghost use Rattle.std.specs.Option.{option_map};
 ghost use Rattle.values.specs.Codes.{reason, read_reason};
 
-use bytes::{Alphabet, read_exactly};
+use octets::{Alphabet, read_exactly};
 
 /// The reason of a transaction: four characters, each a capital letter or a digit.
 #[derive(Clone, Copy)]

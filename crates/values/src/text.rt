@@ -3,7 +3,7 @@ ghost use Rattle.std.specs.Prelude.{◌≡◌, ◌≤◌, true, length, take};
 ghost use Rattle.std.specs.Option.{option_map};
 ghost use Rattle.values.specs.Texts.{padded, printed, read_printed};
 
-use bytes::Alphabet;
+use octets::Alphabet;
 
 /// A text of 1 to `W` printable ASCII characters. The bytes behind it are zeros, so that equal texts are equal values.
 #[derive(Clone, Copy)]

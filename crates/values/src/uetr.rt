@@ -3,7 +3,7 @@ ghost use Rattle.std.specs.Prelude.{◌≡◌, true};
 ghost use Rattle.std.specs.Option.{option_map};
 ghost use Rattle.values.specs.Codes.{uetr, read_uetr};
 
-use bytes::same_bytes;
+use octets::same_bytes;
 
 /// How many bytes a reference has.
 const LENGTH: usize = 16;

@@ -1,6 +1,6 @@
 use Rattle.std.proofs.Common.{◌≡◌, ℕ, List, is_some, is_ok, None, Option, sym, ap, ◌∙◌}
 use Rattle.std.specs.Option.{option_map}
-use Rattle.bytes.proofs.Parts.{is_some_mapped}
+use Rattle.octets.proofs.Parts.{is_some_mapped}
 use Rattle.message.specs.Messages.{read_message}
 use Rattle.content.specs.declared.decode.Content.{Content}
 use Rattle.content.specs.Views.{content_view}

@@ -1,7 +1,7 @@
 use Rattle.std.proofs.Common.{eqb, get_or, sym, ◌∙◌}
 use Rattle.std.proofs.lemmas.List.{at_drop_all}
 use Rattle.std.proofs.lemmas.Bool.{eq-eqb, ne_eqb}
-use Rattle.bytes.proofs.Parts.{every_stops, every_goes_on}
+use Rattle.octets.proofs.Parts.{every_stops, every_goes_on}
 use Rattle.image.specs.Image.{all_zero}
 use Rattle.image.proofs.mounting.is_blank.Goals as goal
 

@@ -3,7 +3,7 @@ use Rattle.values.specs.Codes.{member_code}
 use Rattle.dates.specs.Dates.{read_date}
 use Rattle.values.specs.Identifiers.{identifier}
 use Rattle.dates.specs.Views.{view}
-use Rattle.bytes.proofs.Parts.{is_some_kept, is_some_mapped}
+use Rattle.octets.proofs.Parts.{is_some_kept, is_some_mapped}
 use Rattle.values.proofs.Identifiers.{by_parts}
 use Rattle.values.proofs.identifier.is_formed.Goals as goal
 use Rattle.values.proofs.identifier.is_formed.Goals.{After-admits-all-serial}

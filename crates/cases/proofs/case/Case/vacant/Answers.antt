@@ -1,5 +1,5 @@
 use Rattle.std.proofs.Common.{◌≡◌, true, is_some, codes, sym, refl, ap, ◌∙◌}
-use Rattle.bytes.proofs.Parts.{is_some_mapped}
+use Rattle.octets.proofs.Parts.{is_some_mapped}
 use Rattle.dates.specs.Dates.{month_length, real_date, read_date}
 use Rattle.values.specs.Identifiers.{identifier, read_identifier}
 use Rattle.cases.proofs.case.Case.vacant.Goals as goal

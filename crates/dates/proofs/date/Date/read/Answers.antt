@@ -1,10 +1,10 @@
 use Rattle.std.proofs.Common.{◌≡◌, ℕ, ◌+◌, ◌*◌, ◌<◌, true, ◌&&◌, eqb, length, get_or, sym, ap, ◌∙◌, arith}
 use Rattle.std.specs.Option.{option_map}
 use Rattle.std.proofs.lemmas.Bool.{cond-true, cond-false}
-use Rattle.bytes.specs.Bytes.{is_digit, every}
+use Rattle.octets.specs.Bytes.{is_digit, every}
 use Rattle.dates.specs.Dates.{date, date_of, real_only, read_date}
 use Rattle.dates.specs.Views.{view}
-use Rattle.bytes.proofs.Parts.{every_at, kept-some, kept-none}
+use Rattle.octets.proofs.Parts.{every_at, kept-some, kept-none}
 use Rattle.dates.proofs.Digits.{date_places, read_digits, form_of_read}
 use Rattle.dates.proofs.date.Date.read.Goals as goal
 use Rattle.dates.proofs.date.Date.read.Goals.{In-ok-digits}
@@ -38,10 +38,10 @@ pub returns : goal.returns
 unfolding read_date
 returns c =
     let bs = c.args.bytes.now in
-    let xs = c.in-ok-digits.digits in
-    let k = kept-some (eqb (length bs) 8 && every is_digit bs) bs xs c.in-ok-digits.ensures in
-    let r = read_digits bs xs c.in-ok-digits.ensures in
+    let xs = c.in_ok-digits.digits in
+    let k = kept-some (eqb (length bs) 8 && every is_digit bs) bs xs c.in_ok-digits.ensures in
+    let r = read_digits bs xs c.in_ok-digits.ensures in
     let d = date_places xs r.1 in
-    let e : date (c.two-digits.result * 100 + c.two-digits-2.result) c.two-digits-3.result c.two-digits-4.result ≡ date_of bs = cc r.0 in
+    let e : date (c.two_digits.result * 100 + c.two_digits-2.result) c.two-digits-3.result c.two-digits-4.result ≡ date_of bs = cc r.0 in
     let v : option_map view c.new.result ≡ read_date bs = c.new.ensures ∙ ap real_only e ∙ sym (cond-true _ _ _ k.0) in
     record { value = v; form = form_of_read c.new.result bs v }

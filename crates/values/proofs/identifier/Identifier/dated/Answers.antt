@@ -1,6 +1,6 @@
 use Rattle.std.proofs.Common.{◌≡◌, ap, ◌∙◌}
 use Rattle.std.proofs.lemmas.Bool.Decides.{Decides-at}
-use Rattle.bytes.specs.Bytes.{same_bytes}
+use Rattle.octets.specs.Bytes.{same_bytes}
 use Rattle.values.specs.Identifiers.{date_part, is_dated}
 use Rattle.dates.specs.Views.{view}
 use Rattle.values.proofs.Identifiers.{dated_decides}

@@ -1,5 +1,5 @@
 use Rattle.std.proofs.Common.{sym, ap}
-use Rattle.bytes.specs.Bytes.{kept}
+use Rattle.octets.specs.Bytes.{kept}
 use Rattle.values.proofs.Identifiers.{wrong_length}
 use Rattle.values.proofs.identifier.Identifier.read.Goals as goal
 

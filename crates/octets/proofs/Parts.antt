@@ -4,7 +4,7 @@ use Rattle.std.proofs.lemmas.Slice.Eq.{text_from_reads}
 use Rattle.std.proofs.lemmas.List.{at_drop_more}
 use Rattle.std.proofs.lemmas.Bool.{and_parts}
 use Rattle.std.specs.Option.{option_map}
-use Rattle.bytes.specs.Bytes.{every, kept}
+use Rattle.octets.specs.Bytes.{every, kept}
 
 -- the first eight bytes, one by one
 abbrev pub first_eight : List ℕ → List ℕ

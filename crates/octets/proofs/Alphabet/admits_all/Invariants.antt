@@ -1,7 +1,7 @@
 use Rattle.std.proofs.Common.{◌≡◌, drop}
-use Rattle.bytes.specs.Bytes.{every}
-use Rattle.bytes.specs.Alphabet.{admitted}
-use Rattle.bytes.proofs.Alphabet.admits_all.Given as goal
+use Rattle.octets.specs.Bytes.{every}
+use Rattle.octets.specs.Alphabet.{admitted}
+use Rattle.octets.proofs.Alphabet.admits_all.Given as goal
 
 -- the bytes that are left decide as all of them do
 abbrev pub invariant-loop-byte : goal.invariant-loop-byte

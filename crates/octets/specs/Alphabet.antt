@@ -1,8 +1,8 @@
 -- The sets of characters that the code judges bytes by.
 use Rattle.std.specs.Prelude.{ℕ, Bool}
-use Rattle.bytes.specs.declared.Alphabet.{Alphabet}
-use Rattle.bytes.specs.declared.Alphabet.TheVariants.{Digits, CapitalsAndDigits, Printable}
-use Rattle.bytes.specs.Bytes.{is_digit, is_capital_or_digit, is_printable}
+use Rattle.octets.specs.declared.Alphabet.{Alphabet}
+use Rattle.octets.specs.declared.Alphabet.TheVariants.{Digits, CapitalsAndDigits, Printable}
+use Rattle.octets.specs.Bytes.{is_digit, is_capital_or_digit, is_printable}
 
 -- the byte stands for a character of the set
 abbrev pub admitted : Alphabet → ℕ → Bool

@@ -1,7 +1,9 @@
 //! Bytes: comparing them, and judging them by the characters that they stand for.
+#![tactic(auto)]
+
 ghost use Rattle.std.specs.Prelude.{◌≡◌, ◌&&◌, length, Decides, ◌==◌};
-ghost use Rattle.bytes.specs.Bytes.{same_bytes, every, kept};
-ghost use Rattle.bytes.specs.Alphabet.{admitted};
+ghost use Rattle.octets.specs.Bytes.{same_bytes, every, kept};
+ghost use Rattle.octets.specs.Alphabet.{admitted};
 
 /// Whether two byte strings are equal. Every comparison of bytes goes through this function.
 pub fn same_bytes(a: &[u8], b: &[u8]) -> bool

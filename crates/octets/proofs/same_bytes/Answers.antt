@@ -1,8 +1,8 @@
 use Rattle.std.proofs.Common.{rules}
 use Rattle.std.proofs.lemmas.Slice.Eq.{slice_eq-Decides, compares_Decides}
 use Rattle.std.proofs.lemmas.Bool.Decides.{same_from_decides, Decides-eqb}
-use Rattle.bytes.specs.Bytes.{same_bytes}
-use Rattle.bytes.proofs.same_bytes.Goals as goal
+use Rattle.octets.specs.Bytes.{same_bytes}
+use Rattle.octets.proofs.same_bytes.Goals as goal
 
 pub returns : goal.returns
 returns c =

@@ -1,9 +1,9 @@
 use Rattle.std.proofs.Common.{sym, ◌∙◌}
 use Rattle.std.proofs.lemmas.List.{at_drop_all}
-use Rattle.bytes.specs.Bytes.{every}
-use Rattle.bytes.specs.Alphabet.{admitted}
-use Rattle.bytes.proofs.Parts.{every_stops, every_goes_on}
-use Rattle.bytes.proofs.Alphabet.admits_all.Goals as goal
+use Rattle.octets.specs.Bytes.{every}
+use Rattle.octets.specs.Alphabet.{admitted}
+use Rattle.octets.proofs.Parts.{every_stops, every_goes_on}
+use Rattle.octets.proofs.Alphabet.admits_all.Goals as goal
 
 pub returns-then-not-admits : goal.returns-then-not-admits
 returns-then-not-admits c =
