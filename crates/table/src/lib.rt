@@ -38,7 +38,7 @@ pub struct Table<'a, R> {
 
 /// The place of the first row of this name.
 fn place_in<R: Row>(rows: &[R], name: &R::Name) -> Option<usize>
-    ensures { result ≡ place (λ x. called x name.now) rows.now }
+    ensures { result ≡ place (λ x. R.called x name.now) rows.now }
 {
     for (at, row) in rows.iter().enumerate() {
         if row.is_called(name) {
@@ -86,7 +86,7 @@ impl<'a, R: Row> Table<'a, R> {
 
     /// The place of the first row of this name.
     pub fn find(&self, name: &R::Name) -> Option<usize>
-        ensures { result ≡ place (λ x. called x name.now) (rows_of self.now) }
+        ensures { result ≡ place (λ x. R.called x name.now) (rows_of self.now) }
     {
         let count = self.count();
         let rows: &[R] = self.rows;
@@ -95,7 +95,7 @@ impl<'a, R: Row> Table<'a, R> {
 
     /// The first row of this name.
     pub fn look(&self, name: &R::Name) -> Option<R>
-        ensures { result ≡ first (λ x. called x name.now) (rows_of self.now) }
+        ensures { result ≡ first (λ x. R.called x name.now) (rows_of self.now) }
     {
         match self.find(name) {
             Some(at) => self.row_at(at),
@@ -105,7 +105,7 @@ impl<'a, R: Row> Table<'a, R> {
 
     /// Whether a row of this name stands.
     pub fn holds(&self, name: &R::Name) -> bool
-        ensures { result ≡ any (λ x. called x name.now) (rows_of self.now) }
+        ensures { result ≡ any (λ x. R.called x name.now) (rows_of self.now) }
     {
         self.find(name).is_some()
     }

@@ -10,9 +10,9 @@ pub returns : goal.returns
 unfolding case_block case_fields
 returns c =
     let k = view c.args.case.now in
-    let fields : written c.put-transaction.new.writer ≡ case_fields k =
-    c.put-transaction.ensures.fields
-    ∙ ap (λ w. w ++ transaction_fields k) (c.put-state.ensures.fields ∙ ap (λ w. w ++ state_fields k.state) (c.put-original.ensures.fields ∙ ap (λ w. w ++ original_fields k.subject) (c.put-opening.ensures.fields ∙ ap (λ w. w ++ opening_fields k) c.new-writer.ensures.fields)))
+    let fields : written c.put_transaction.new.writer ≡ case_fields k =
+    c.put_transaction.ensures.fields
+    ∙ ap (λ w. w ++ transaction_fields k) (c.put_state.ensures.fields ∙ ap (λ w. w ++ state_fields k.state) (c.put_original.ensures.fields ∙ ap (λ w. w ++ original_fields k.subject) (c.put_opening.ensures.fields ∙ ap (λ w. w ++ opening_fields k) c.new-writer.ensures.fields)))
     ∙ assembled (opening_fields k) (original_fields k.subject) (state_fields k.state) (transaction_fields k) in
     let e = c.close.ensures.bytes ∙ ap block_of fields in
     search rules

@@ -5,45 +5,45 @@ use Rattle.cases.specs.Views.{view}
 use Rattle.coding.specs.Decoding.{case_in}
 use Rattle.coding.proofs.read_case.Goals as goal
 
-pub returns-in-err-name : goal.returns-in-err-name
+pub returns-in_err-name : goal.returns-in_err-name
 unfolding case_in
-returns-in-err-name c = ap (option_map view) c.from-residual.ensures ∙ sym (given-none _ _ c.in-err-name.ensures)
+returns-in_err-name c = ap (option_map view) c.from_residual.ensures ∙ sym (given-none _ _ c.in_err-name.ensures)
 
-pub returns-in-err-subject : goal.returns-in-err-subject
+pub returns-in_err-subject : goal.returns-in_err-subject
 unfolding case_in
-returns-in-err-subject c = ap (option_map view) c.from-residual-in-err-subject.ensures ∙ sym (given-some _ _ _ c.in-ok-name.ensures ∙ given-none _ _ c.in-err-subject.ensures)
+returns-in_err-subject c = ap (option_map view) c.from_residual-in_err-subject.ensures ∙ sym (given-some _ _ _ c.in_ok-name.ensures ∙ given-none _ _ c.in_err-subject.ensures)
 
-pub returns-in-err-end-to-end : goal.returns-in-err-end-to-end
+pub returns-in_err-end_to_end : goal.returns-in_err-end_to_end
 unfolding case_in
-returns-in-err-end-to-end c =
-    ap (option_map view) c.from-residual-in-err-end-to-end.ensures
-    ∙ sym (given-some _ _ _ c.in-ok-name.ensures ∙ given-some _ _ _ c.in-ok-subject.ensures ∙ given-none _ _ c.in-err-end-to-end.ensures)
+returns-in_err-end_to_end c =
+    ap (option_map view) c.from_residual-in_err-end_to_end.ensures
+    ∙ sym (given-some _ _ _ c.in_ok-name.ensures ∙ given-some _ _ _ c.in_ok-subject.ensures ∙ given-none _ _ c.in_err-end_to_end.ensures)
 
-pub returns-in-err-amount : goal.returns-in-err-amount
+pub returns-in_err-amount : goal.returns-in_err-amount
 unfolding case_in
-returns-in-err-amount c =
-    ap (option_map view) c.from-residual-in-err-amount.ensures
-    ∙ sym (given-some _ _ _ c.in-ok-name.ensures ∙ given-some _ _ _ c.in-ok-subject.ensures ∙ given-some _ _ _ c.in-ok-end-to-end.ensures ∙ given-none _ _ c.in-err-amount.ensures)
+returns-in_err-amount c =
+    ap (option_map view) c.from_residual-in_err-amount.ensures
+    ∙ sym (given-some _ _ _ c.in_ok-name.ensures ∙ given-some _ _ _ c.in_ok-subject.ensures ∙ given-some _ _ _ c.in_ok-end_to_end.ensures ∙ given-none _ _ c.in_err-amount.ensures)
 
-pub returns-in-err-opener : goal.returns-in-err-opener
+pub returns-in_err-opener : goal.returns-in_err-opener
 unfolding case_in
-returns-in-err-opener c =
-    ap (option_map view) c.from-residual-in-err-opener.ensures
-    ∙ sym (given-some _ _ _ c.in-ok-name.ensures ∙ given-some _ _ _ c.in-ok-subject.ensures ∙ given-some _ _ _ c.in-ok-end-to-end.ensures ∙ given-some _ _ _ c.in-ok-amount.ensures ∙ given-none _ _ c.in-err-opener.ensures)
+returns-in_err-opener c =
+    ap (option_map view) c.from_residual-in_err-opener.ensures
+    ∙ sym (given-some _ _ _ c.in_ok-name.ensures ∙ given-some _ _ _ c.in_ok-subject.ensures ∙ given-some _ _ _ c.in_ok-end_to_end.ensures ∙ given-some _ _ _ c.in_ok-amount.ensures ∙ given-none _ _ c.in_err-opener.ensures)
 
-pub returns-in-err-assignee : goal.returns-in-err-assignee
+pub returns-in_err-assignee : goal.returns-in_err-assignee
 unfolding case_in
-returns-in-err-assignee c =
-    ap (option_map view) c.from-residual-in-err-assignee.ensures
-    ∙ sym (given-some _ _ _ c.in-ok-name.ensures ∙ given-some _ _ _ c.in-ok-subject.ensures ∙ given-some _ _ _ c.in-ok-end-to-end.ensures ∙ given-some _ _ _ c.in-ok-amount.ensures ∙ given-some _ _ _ c.in-ok-opener.ensures ∙ given-none _ _ c.in-err-assignee.ensures)
+returns-in_err-assignee c =
+    ap (option_map view) c.from_residual-in_err-assignee.ensures
+    ∙ sym (given-some _ _ _ c.in_ok-name.ensures ∙ given-some _ _ _ c.in_ok-subject.ensures ∙ given-some _ _ _ c.in_ok-end_to_end.ensures ∙ given-some _ _ _ c.in_ok-amount.ensures ∙ given-some _ _ _ c.in_ok-opener.ensures ∙ given-none _ _ c.in_err-assignee.ensures)
 
-pub returns-in-err-state : goal.returns-in-err-state
+pub returns-in_err-state : goal.returns-in_err-state
 unfolding case_in
-returns-in-err-state c =
-    ap (option_map view) c.from-residual-in-err-state.ensures
-    ∙ sym (given-some _ _ _ c.in-ok-name.ensures ∙ given-some _ _ _ c.in-ok-subject.ensures ∙ given-some _ _ _ c.in-ok-end-to-end.ensures ∙ given-some _ _ _ c.in-ok-amount.ensures ∙ given-some _ _ _ c.in-ok-opener.ensures ∙ given-some _ _ _ c.in-ok-assignee.ensures ∙ given-none _ _ c.in-err-state.ensures)
+returns-in_err-state c =
+    ap (option_map view) c.from_residual-in_err-state.ensures
+    ∙ sym (given-some _ _ _ c.in_ok-name.ensures ∙ given-some _ _ _ c.in_ok-subject.ensures ∙ given-some _ _ _ c.in_ok-end_to_end.ensures ∙ given-some _ _ _ c.in_ok-amount.ensures ∙ given-some _ _ _ c.in_ok-opener.ensures ∙ given-some _ _ _ c.in_ok-assignee.ensures ∙ given-none _ _ c.in_err-state.ensures)
 
 pub returns : goal.returns
 unfolding case_in
 returns c =
-    sym (given-some _ _ _ c.in-ok-name.ensures ∙ given-some _ _ _ c.in-ok-subject.ensures ∙ given-some _ _ _ c.in-ok-end-to-end.ensures ∙ given-some _ _ _ c.in-ok-amount.ensures ∙ given-some _ _ _ c.in-ok-opener.ensures ∙ given-some _ _ _ c.in-ok-assignee.ensures ∙ given-some _ _ _ c.in-ok-state.ensures)
+    sym (given-some _ _ _ c.in_ok-name.ensures ∙ given-some _ _ _ c.in_ok-subject.ensures ∙ given-some _ _ _ c.in_ok-end_to_end.ensures ∙ given-some _ _ _ c.in_ok-amount.ensures ∙ given-some _ _ _ c.in_ok-opener.ensures ∙ given-some _ _ _ c.in_ok-assignee.ensures ∙ given-some _ _ _ c.in_ok-state.ensures)

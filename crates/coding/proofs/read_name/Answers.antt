@@ -5,14 +5,14 @@ use Rattle.cases.specs.Views.{name_view}
 use Rattle.coding.specs.Decoding.{name_in}
 use Rattle.coding.proofs.read_name.Goals as goal
 
-pub returns-in-err-identifier : goal.returns-in-err-identifier
+pub returns-in_err-identifier : goal.returns-in_err-identifier
 unfolding name_in
-returns-in-err-identifier c = ap (option_map name_view) c.from-residual.ensures ∙ sym (given-none _ _ c.in-err-identifier.ensures)
+returns-in_err-identifier c = ap (option_map name_view) c.from_residual.ensures ∙ sym (given-none _ _ c.in_err-identifier.ensures)
 
-pub returns-in-err-uetr : goal.returns-in-err-uetr
+pub returns-in_err-uetr : goal.returns-in_err-uetr
 unfolding name_in
-returns-in-err-uetr c = ap (option_map name_view) c.from-residual-in-err-uetr.ensures ∙ sym (given-some _ _ _ c.in-ok-identifier.ensures ∙ given-none _ _ c.in-err-uetr.ensures)
+returns-in_err-uetr c = ap (option_map name_view) c.from_residual-in_err-uetr.ensures ∙ sym (given-some _ _ _ c.in_ok-identifier.ensures ∙ given-none _ _ c.in_err-uetr.ensures)
 
 pub returns : goal.returns
 unfolding name_in
-returns c = sym (given-some _ _ _ c.in-ok-identifier.ensures ∙ given-some _ _ _ c.in-ok-uetr.ensures)
+returns c = sym (given-some _ _ _ c.in_ok-identifier.ensures ∙ given-some _ _ _ c.in_ok-uetr.ensures)

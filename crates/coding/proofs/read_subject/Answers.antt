@@ -7,22 +7,22 @@ use Rattle.cases.specs.Views.{subject_view}
 use Rattle.coding.specs.Decoding.{subject_by, subject_in}
 use Rattle.coding.proofs.read_subject.Goals as goal
 
-pub returns-in-err-byte : goal.returns-in-err-byte
+pub returns-in_err-byte : goal.returns-in_err-byte
 unfolding subject_in
-returns-in-err-byte c = ap (option_map subject_view) c.from-residual.ensures ∙ sym (given-none _ _ c.in-err-byte.ensures)
+returns-in_err-byte c = ap (option_map subject_view) c.from_residual.ensures ∙ sym (given-none _ _ c.in_err-byte.ensures)
 
 pub returns-in-13 : goal.returns-in-13
 unfolding subject_in
-returns-in-13 c = sym (given-some _ _ _ c.in-ok-byte.ensures ∙ ap (subject_by (fields_of c.args.block.now)) c.in-13.is)
+returns-in-13 c = sym (given-some _ _ _ c.in_ok-byte.ensures ∙ ap (subject_by (fields_of c.args.block.now)) c.in-13.is)
 
 pub returns-in-56 : goal.returns-in-56
 unfolding subject_in
-returns-in-56 c = c.read-original.ensures ∙ sym (given-some _ _ _ c.in-ok-byte.ensures ∙ ap (subject_by (fields_of c.args.block.now)) c.in-56.is)
+returns-in-56 c = c.read_original.ensures ∙ sym (given-some _ _ _ c.in_ok-byte.ensures ∙ ap (subject_by (fields_of c.args.block.now)) c.in-56.is)
 
-pub returns-in-default : goal.returns-in-default
+pub returns-in_default : goal.returns-in_default
 unfolding subject_in
-returns-in-default c =
-    let n = c.in-ok-byte.field-0 in
+returns-in_default c =
+    let n = c.in_ok-byte.field-0 in
     let a : eqb n 13 ≡ false = ne_eqb n 13 (λ e. omega arith) in
     let b : eqb n 56 ≡ false = ne_eqb n 56 (λ e. omega arith) in
-    sym (given-some _ _ _ c.in-ok-byte.ensures ∙ rw (a, b))
+    sym (given-some _ _ _ c.in_ok-byte.ensures ∙ rw (a, b))

@@ -8,7 +8,7 @@ use Rattle.cases.specs.Views.{view, state_view}
 use Rattle.books.specs.Totals.{totals_of, counted, Below}
 use Rattle.books.proofs.Counting.{totals-push, totals_below}
 use Rattle.books.proofs.totals.totals_of.Goals as goal
-use Rattle.books.proofs.totals.totals_of.Goals.{in-Some, in-default}
+use Rattle.books.proofs.totals.totals_of.Goals.{in-Some, in_default}
 
 pub counting-sums-requires : goal.counting-sums-requires
 counting-sums-requires g c =
@@ -24,15 +24,15 @@ counting-sums-requires g c =
 pub loop-at-preserved : goal.loop-at-preserved
 loop-at-preserved g c =
     let cs = g.B.CaseBook.cases c.args.book.now in
-    elim c.match-case-at.branch [
+    elim c.match-case_at.branch [
       | in-Some w ↦
-          let here : slice_get cs c.loop-at.at ≡ Some (view w.in-Some.case) = sym c.case-at.ensures ∙ ap (option_map view) w.in-Some.is in
+          let here : slice_get cs c.loop-at.at ≡ Some (view w.in-Some.case) = sym c.case_at.ensures ∙ ap (option_map view) w.in-Some.is in
           w.sums-is ∙ w.counting-sums.ensures
           ∙ ap (counted (state_view w.in-Some.case.state)) c.loop-at.invariant
           ∙ totals-push (take c.loop-at.at cs) (view w.in-Some.case)
           ∙ ap totals_of (sym (take_nth cs c.loop-at.at (view w.in-Some.case) here))
-      | in-default w ↦
-          let past : length cs ≤ c.loop-at.at = nth_beyond cs c.loop-at.at (sym c.case-at.ensures ∙ ap (option_map view) w.in-default.is) in
+      | in_default w ↦
+          let past : length cs ≤ c.loop-at.at = nth_beyond cs c.loop-at.at (sym c.case_at.ensures ∙ ap (option_map view) w.in_default.is) in
           absurd (omega arith)
     ]
 

@@ -16,7 +16,7 @@ pub loop-field-preserved : goal.loop-field-preserved
 loop-field-preserved c =
     let a = c.field-item.result in
     let i = c.loop-field.field-index in
-    let w = one_more (written c.loop-field.writer) (written c.put.new.self) a c.number.result c.as-slice.result.now c.in-default.ensures.fields c.number.ensures c.as-slice.ensures.value in
+    let w = one_more (written c.loop-field.writer) (written c.put.new.self) a c.number.result c.as_slice.result.now c.in_default.ensures.fields c.number.ensures c.as_slice.ensures.value in
     let m = map_more field_value c.args.fields.now i a c.loop-field-test.true in (
       c.put.ensures.sound,
       w ∙ ap (λ fs. fs ++ field_value a ∷ []) c.loop-field.invariant.1 ∙ ap (λ x. map field_value (take i c.args.fields.now) ++ field_value x ∷ []) c.field-item.is ∙ sym m,

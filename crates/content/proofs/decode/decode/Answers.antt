@@ -12,12 +12,12 @@ use Rattle.content.proofs.decode.decode.Goals as goal
 by_value : (r : Option Content) (xs : List ℕ) → option_map content_view r ≡ decoded xs → is_some r ≡ is_ok (read_message xs)
 by_value r xs e = sym (is_some_mapped content_view r) ∙ ap is_some e ∙ total xs
 
-pub read-blocks-requires : goal.read-blocks-requires
-read-blocks-requires c = short_read c.bytes-bytes.result.now c.in-Ok.ensures.answer.1
+pub read_blocks-requires : goal.read_blocks-requires
+read_blocks-requires c = short_read c.bytes-bytes.result.now c.in-Ok.ensures.answer.1
 
 pub returns-in-Ok : goal.returns-in-Ok
 returns-in-Ok c =
-    let e = c.read-blocks.ensures ∙ decoded_fronts c.bytes-bytes.result.now c.in-Ok.ensures.answer.1 ∙ ap decoded c.bytes-bytes.ensures in
+    let e = c.read_blocks.ensures ∙ decoded_fronts c.bytes-bytes.result.now c.in-Ok.ensures.answer.1 ∙ ap decoded c.bytes-bytes.ensures in
     record { value = e; total = by_value _ _ e }
 
 pub returns-in-Err : goal.returns-in-Err

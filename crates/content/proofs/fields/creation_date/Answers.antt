@@ -7,10 +7,10 @@ use Rattle.content.specs.Items.{creation_date_in}
 use Rattle.block.proofs.Chaining.{field_none, field_some}
 use Rattle.content.proofs.fields.creation_date.Goals as goal
 
-pub returns-in-err-value : goal.returns-in-err-value
+pub returns-in_err-value : goal.returns-in_err-value
 unfolding creation_date_in
-returns-in-err-value c = ap (option_map view) c.from-residual.ensures ∙ field_none (fields_of c.args.block.now) 3 c.number.result c.number.ensures read_date c.in-err-value.ensures.found
+returns-in_err-value c = ap (option_map view) c.from_residual.ensures ∙ field_none (fields_of c.args.block.now) 3 c.number.result c.number.ensures read_date c.in_err-value.ensures.found
 
 pub returns : goal.returns
 unfolding creation_date_in
-returns c = c.read.ensures.value ∙ field_some (fields_of c.args.block.now) 3 c.number.result c.number.ensures read_date _ c.in-ok-value.ensures.found
+returns c = c.read.ensures.value ∙ field_some (fields_of c.args.block.now) 3 c.number.result c.number.ensures read_date _ c.in_ok-value.ensures.found

@@ -6,13 +6,13 @@ use Rattle.content.specs.Items.{reason_in}
 use Rattle.block.proofs.Chaining.{absent_field, fit_field, unfit_field}
 use Rattle.content.proofs.fields.reason.Goals as goal
 
-pub returns-in-err-reason : goal.returns-in-err-reason
+pub returns-in_err-reason : goal.returns-in_err-reason
 unfolding reason_in
-returns-in-err-reason c = ap (option_map (option_map (λ code. code.bytes))) c.from-residual.ensures ∙ unfit_field (fields_of c.args.block.now) 20 c.number.result c.number.ensures read_reason _ c.in-Some.ensures.found c.in-err-reason.ensures
+returns-in_err-reason c = ap (option_map (option_map (λ code. code.bytes))) c.from_residual.ensures ∙ unfit_field (fields_of c.args.block.now) 20 c.number.result c.number.ensures read_reason _ c.in-Some.ensures.found c.in_err-reason.ensures
 
-pub returns-in-ok-reason : goal.returns-in-ok-reason
+pub returns-in_ok-reason : goal.returns-in_ok-reason
 unfolding reason_in
-returns-in-ok-reason c = fit_field (fields_of c.args.block.now) 20 c.number.result c.number.ensures read_reason _ _ c.in-Some.ensures.found c.in-ok-reason.ensures
+returns-in_ok-reason c = fit_field (fields_of c.args.block.now) 20 c.number.result c.number.ensures read_reason _ _ c.in-Some.ensures.found c.in_ok-reason.ensures
 
 pub returns-in-None : goal.returns-in-None
 unfolding reason_in

@@ -7,13 +7,13 @@ use Rattle.content.specs.Items.{text_in}
 use Rattle.block.proofs.Chaining.{absent_field, fit_field, unfit_field}
 use Rattle.content.proofs.fields.text.Goals as goal
 
-pub returns-in-err-text : goal.returns-in-err-text
+pub returns-in_err-text : goal.returns-in_err-text
 unfolding text_in
-returns-in-err-text c = ap (option_map (option_map characters)) c.from-residual.ensures ∙ unfit_field (fields_of c.args.block.now) 21 c.number.result c.number.ensures read_text _ c.in-Some.ensures.found c.in-err-text.ensures
+returns-in_err-text c = ap (option_map (option_map characters)) c.from_residual.ensures ∙ unfit_field (fields_of c.args.block.now) 21 c.number.result c.number.ensures read_text _ c.in-Some.ensures.found c.in_err-text.ensures
 
-pub returns-in-ok-text : goal.returns-in-ok-text
+pub returns-in_ok-text : goal.returns-in_ok-text
 unfolding text_in
-returns-in-ok-text c = fit_field (fields_of c.args.block.now) 21 c.number.result c.number.ensures read_text _ _ c.in-Some.ensures.found c.in-ok-text.ensures
+returns-in_ok-text c = fit_field (fields_of c.args.block.now) 21 c.number.result c.number.ensures read_text _ _ c.in-Some.ensures.found c.in_ok-text.ensures
 
 pub returns-in-None : goal.returns-in-None
 unfolding text_in

@@ -5,30 +5,30 @@ use Rattle.content.specs.Decoding.{header_in}
 use Rattle.block.proofs.Chaining.{given-some, given-none}
 use Rattle.content.proofs.header.read_header.Goals as goal
 
-pub returns-in-err-identifier : goal.returns-in-err-identifier
+pub returns-in_err-identifier : goal.returns-in_err-identifier
 unfolding header_in
-returns-in-err-identifier c = ap (option_map header_view) c.from-residual.ensures ∙ sym (given-none _ _ c.in-err-identifier.ensures)
+returns-in_err-identifier c = ap (option_map header_view) c.from_residual.ensures ∙ sym (given-none _ _ c.in_err-identifier.ensures)
 
-pub returns-in-err-creation-date : goal.returns-in-err-creation-date
+pub returns-in_err-creation_date : goal.returns-in_err-creation_date
 unfolding header_in
-returns-in-err-creation-date c = ap (option_map header_view) c.from-residual-in-err-creation-date.ensures ∙ sym (given-some _ _ _ c.in-ok-identifier.ensures ∙ given-none _ _ c.in-err-creation-date.ensures)
+returns-in_err-creation_date c = ap (option_map header_view) c.from_residual-in_err-creation_date.ensures ∙ sym (given-some _ _ _ c.in_ok-identifier.ensures ∙ given-none _ _ c.in_err-creation_date.ensures)
 
-pub returns-in-err-assigner : goal.returns-in-err-assigner
+pub returns-in_err-assigner : goal.returns-in_err-assigner
 unfolding header_in
-returns-in-err-assigner c = ap (option_map header_view) c.from-residual-in-err-assigner.ensures ∙ sym (given-some _ _ _ c.in-ok-identifier.ensures ∙ given-some _ _ _ c.in-ok-creation-date.ensures ∙ given-none _ _ c.in-err-assigner.ensures)
+returns-in_err-assigner c = ap (option_map header_view) c.from_residual-in_err-assigner.ensures ∙ sym (given-some _ _ _ c.in_ok-identifier.ensures ∙ given-some _ _ _ c.in_ok-creation_date.ensures ∙ given-none _ _ c.in_err-assigner.ensures)
 
-pub returns-in-err-assignee : goal.returns-in-err-assignee
+pub returns-in_err-assignee : goal.returns-in_err-assignee
 unfolding header_in
-returns-in-err-assignee c = ap (option_map header_view) c.from-residual-in-err-assignee.ensures ∙ sym (given-some _ _ _ c.in-ok-identifier.ensures ∙ given-some _ _ _ c.in-ok-creation-date.ensures ∙ given-some _ _ _ c.in-ok-assigner.ensures ∙ given-none _ _ c.in-err-assignee.ensures)
+returns-in_err-assignee c = ap (option_map header_view) c.from_residual-in_err-assignee.ensures ∙ sym (given-some _ _ _ c.in_ok-identifier.ensures ∙ given-some _ _ _ c.in_ok-creation_date.ensures ∙ given-some _ _ _ c.in_ok-assigner.ensures ∙ given-none _ _ c.in_err-assignee.ensures)
 
-pub returns-in-err-number : goal.returns-in-err-number
+pub returns-in_err-number : goal.returns-in_err-number
 unfolding header_in
-returns-in-err-number c = ap (option_map header_view) c.from-residual-in-err-number.ensures ∙ sym (given-some _ _ _ c.in-ok-identifier.ensures ∙ given-some _ _ _ c.in-ok-creation-date.ensures ∙ given-some _ _ _ c.in-ok-assigner.ensures ∙ given-some _ _ _ c.in-ok-assignee.ensures ∙ given-none _ _ c.in-err-number.ensures)
+returns-in_err-number c = ap (option_map header_view) c.from_residual-in_err-number.ensures ∙ sym (given-some _ _ _ c.in_ok-identifier.ensures ∙ given-some _ _ _ c.in_ok-creation_date.ensures ∙ given-some _ _ _ c.in_ok-assigner.ensures ∙ given-some _ _ _ c.in_ok-assignee.ensures ∙ given-none _ _ c.in_err-number.ensures)
 
-pub returns-in-err-purpose : goal.returns-in-err-purpose
+pub returns-in_err-purpose : goal.returns-in_err-purpose
 unfolding header_in
-returns-in-err-purpose c = ap (option_map header_view) c.from-residual-in-err-purpose.ensures ∙ sym (given-some _ _ _ c.in-ok-identifier.ensures ∙ given-some _ _ _ c.in-ok-creation-date.ensures ∙ given-some _ _ _ c.in-ok-assigner.ensures ∙ given-some _ _ _ c.in-ok-assignee.ensures ∙ given-some _ _ _ c.in-ok-number.ensures ∙ given-none _ _ c.in-err-purpose.ensures)
+returns-in_err-purpose c = ap (option_map header_view) c.from_residual-in_err-purpose.ensures ∙ sym (given-some _ _ _ c.in_ok-identifier.ensures ∙ given-some _ _ _ c.in_ok-creation_date.ensures ∙ given-some _ _ _ c.in_ok-assigner.ensures ∙ given-some _ _ _ c.in_ok-assignee.ensures ∙ given-some _ _ _ c.in_ok-number.ensures ∙ given-none _ _ c.in_err-purpose.ensures)
 
 pub returns : goal.returns
 unfolding header_in
-returns c = sym (given-some _ _ _ c.in-ok-identifier.ensures ∙ given-some _ _ _ c.in-ok-creation-date.ensures ∙ given-some _ _ _ c.in-ok-assigner.ensures ∙ given-some _ _ _ c.in-ok-assignee.ensures ∙ given-some _ _ _ c.in-ok-number.ensures ∙ given-some _ _ _ c.in-ok-purpose.ensures)
+returns c = sym (given-some _ _ _ c.in_ok-identifier.ensures ∙ given-some _ _ _ c.in_ok-creation_date.ensures ∙ given-some _ _ _ c.in_ok-assigner.ensures ∙ given-some _ _ _ c.in_ok-assignee.ensures ∙ given-some _ _ _ c.in_ok-number.ensures ∙ given-some _ _ _ c.in_ok-purpose.ensures)

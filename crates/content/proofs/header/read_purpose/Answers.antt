@@ -6,34 +6,34 @@ use Rattle.content.specs.Views.{purpose_view}
 use Rattle.content.specs.Decoding.{purpose_in}
 use Rattle.content.proofs.header.read_purpose.Goals as goal
 
-pub returns-in-err-debtor-agent : goal.returns-in-err-debtor-agent
+pub returns-in_err-debtor_agent : goal.returns-in_err-debtor_agent
 unfolding purpose_in
-returns-in-err-debtor-agent c = ap (option_map purpose_view) c.from-residual.ensures ∙ ap (option_map request) c.in-err-debtor-agent.ensures ∙ sym (ap (λ k. purpose_in k (fields_of c.args.block.now)) c.in-Request.is)
+returns-in_err-debtor_agent c = ap (option_map purpose_view) c.from_residual.ensures ∙ ap (option_map request) c.in_err-debtor_agent.ensures ∙ sym (ap (λ k. purpose_in k (fields_of c.args.block.now)) c.in-Request.is)
 
-pub returns-in-ok-debtor-agent : goal.returns-in-ok-debtor-agent
+pub returns-in_ok-debtor_agent : goal.returns-in_ok-debtor_agent
 unfolding purpose_in
-returns-in-ok-debtor-agent c = ap (option_map request) c.in-ok-debtor-agent.ensures ∙ sym (ap (λ k. purpose_in k (fields_of c.args.block.now)) c.in-Request.is)
+returns-in_ok-debtor_agent c = ap (option_map request) c.in_ok-debtor_agent.ensures ∙ sym (ap (λ k. purpose_in k (fields_of c.args.block.now)) c.in-Request.is)
 
-pub returns-in-err-original : goal.returns-in-err-original
+pub returns-in_err-original : goal.returns-in_err-original
 unfolding purpose_in
-returns-in-err-original c = ap (option_map purpose_view) c.from-residual-in-err-original.ensures ∙ ap (option_map recall) c.in-err-original.ensures ∙ sym (ap (λ k. purpose_in k (fields_of c.args.block.now)) c.in-Recall.is)
+returns-in_err-original c = ap (option_map purpose_view) c.from_residual-in_err-original.ensures ∙ ap (option_map recall) c.in_err-original.ensures ∙ sym (ap (λ k. purpose_in k (fields_of c.args.block.now)) c.in-Recall.is)
 
-pub returns-in-ok-original : goal.returns-in-ok-original
+pub returns-in_ok-original : goal.returns-in_ok-original
 unfolding purpose_in
-returns-in-ok-original c = ap (option_map recall) c.in-ok-original.ensures ∙ sym (ap (λ k. purpose_in k (fields_of c.args.block.now)) c.in-Recall.is)
+returns-in_ok-original c = ap (option_map recall) c.in_ok-original.ensures ∙ sym (ap (λ k. purpose_in k (fields_of c.args.block.now)) c.in-Recall.is)
 
-pub returns-in-err-original-2 : goal.returns-in-err-original-2
+pub returns-in_err-original-2 : goal.returns-in_err-original-2
 unfolding purpose_in
-returns-in-err-original-2 c = ap (option_map purpose_view) c.from-residual-in-err-original-2.ensures ∙ ap (option_map report) c.in-err-original-2.ensures ∙ sym (ap (λ k. purpose_in k (fields_of c.args.block.now)) c.in-Report.is)
+returns-in_err-original-2 c = ap (option_map purpose_view) c.from_residual-in_err-original-2.ensures ∙ ap (option_map report) c.in_err-original-2.ensures ∙ sym (ap (λ k. purpose_in k (fields_of c.args.block.now)) c.in-Report.is)
 
-pub returns-in-ok-original-2 : goal.returns-in-ok-original-2
+pub returns-in_ok-original-2 : goal.returns-in_ok-original-2
 unfolding purpose_in
-returns-in-ok-original-2 c = ap (option_map report) c.in-ok-original-2.ensures ∙ sym (ap (λ k. purpose_in k (fields_of c.args.block.now)) c.in-Report.is)
+returns-in_ok-original-2 c = ap (option_map report) c.in_ok-original-2.ensures ∙ sym (ap (λ k. purpose_in k (fields_of c.args.block.now)) c.in-Report.is)
 
-pub returns-in-err-original-3 : goal.returns-in-err-original-3
+pub returns-in_err-original-3 : goal.returns-in_err-original-3
 unfolding purpose_in
-returns-in-err-original-3 c = ap (option_map purpose_view) c.from-residual-in-err-original-3.ensures ∙ ap (option_map reply) c.in-err-original-3.ensures ∙ sym (ap (λ k. purpose_in k (fields_of c.args.block.now)) c.in-Reply.is)
+returns-in_err-original-3 c = ap (option_map purpose_view) c.from_residual-in_err-original-3.ensures ∙ ap (option_map reply) c.in_err-original-3.ensures ∙ sym (ap (λ k. purpose_in k (fields_of c.args.block.now)) c.in-Reply.is)
 
-pub returns-in-ok-original-3 : goal.returns-in-ok-original-3
+pub returns-in_ok-original-3 : goal.returns-in_ok-original-3
 unfolding purpose_in
-returns-in-ok-original-3 c = ap (option_map reply) c.in-ok-original-3.ensures ∙ sym (ap (λ k. purpose_in k (fields_of c.args.block.now)) c.in-Reply.is)
+returns-in_ok-original-3 c = ap (option_map reply) c.in_ok-original-3.ensures ∙ sym (ap (λ k. purpose_in k (fields_of c.args.block.now)) c.in-Reply.is)

@@ -9,35 +9,35 @@ use Rattle.content.specs.Decoding.{detail_in}
 use Rattle.block.proofs.Chaining.{given-some, given-none}
 use Rattle.content.proofs.transaction.read_detail.Goals as goal
 
-pub returns-in-err-amount : goal.returns-in-err-amount
+pub returns-in_err-amount : goal.returns-in_err-amount
 unfolding detail_in
-returns-in-err-amount c = ap (option_map detail_view) c.from-residual.ensures ∙ sym (given-none _ _ c.in-err-amount.ensures) ∙ sym (ap (λ k. detail_in k (fields_of c.args.block.now)) c.in-Request.is)
+returns-in_err-amount c = ap (option_map detail_view) c.from_residual.ensures ∙ sym (given-none _ _ c.in_err-amount.ensures) ∙ sym (ap (λ k. detail_in k (fields_of c.args.block.now)) c.in-Request.is)
 
-pub returns-in-err-creditor-agent : goal.returns-in-err-creditor-agent
+pub returns-in_err-creditor_agent : goal.returns-in_err-creditor_agent
 unfolding detail_in
-returns-in-err-creditor-agent c =
-    ap (option_map detail_view) c.from-residual-in-err-creditor-agent.ensures
-    ∙ ap (option_map (requested c.in-ok-amount.amount.kopecks)) c.in-err-creditor-agent.ensures
-    ∙ sym (given-some _ _ _ c.in-ok-amount.ensures)
+returns-in_err-creditor_agent c =
+    ap (option_map detail_view) c.from_residual-in_err-creditor_agent.ensures
+    ∙ ap (option_map (requested c.in_ok-amount.amount.kopecks)) c.in_err-creditor_agent.ensures
+    ∙ sym (given-some _ _ _ c.in_ok-amount.ensures)
     ∙ sym (ap (λ k. detail_in k (fields_of c.args.block.now)) c.in-Request.is)
 
-pub returns-in-ok-creditor-agent : goal.returns-in-ok-creditor-agent
+pub returns-in_ok-creditor_agent : goal.returns-in_ok-creditor_agent
 unfolding detail_in
-returns-in-ok-creditor-agent c =
-    ap (option_map (requested c.in-ok-amount.amount.kopecks)) c.in-ok-creditor-agent.ensures
-    ∙ sym (given-some _ _ _ c.in-ok-amount.ensures)
+returns-in_ok-creditor_agent c =
+    ap (option_map (requested c.in_ok-amount.amount.kopecks)) c.in_ok-creditor_agent.ensures
+    ∙ sym (given-some _ _ _ c.in_ok-amount.ensures)
     ∙ sym (ap (λ k. detail_in k (fields_of c.args.block.now)) c.in-Request.is)
 
-pub returns-in-err-amount-2 : goal.returns-in-err-amount-2
+pub returns-in_err-amount-2 : goal.returns-in_err-amount-2
 unfolding detail_in
-returns-in-err-amount-2 c = ap (option_map detail_view) c.from-residual-in-err-amount-2.ensures ∙ ap (option_map recalled) c.in-err-amount-2.ensures ∙ sym (ap (λ k. detail_in k (fields_of c.args.block.now)) c.in-Recall.is)
+returns-in_err-amount-2 c = ap (option_map detail_view) c.from_residual-in_err-amount-2.ensures ∙ ap (option_map recalled) c.in_err-amount-2.ensures ∙ sym (ap (λ k. detail_in k (fields_of c.args.block.now)) c.in-Recall.is)
 
-pub returns-in-ok-amount-2 : goal.returns-in-ok-amount-2
+pub returns-in_ok-amount-2 : goal.returns-in_ok-amount-2
 unfolding detail_in
-returns-in-ok-amount-2 c = ap (option_map recalled) c.in-ok-amount-2.ensures ∙ sym (ap (λ k. detail_in k (fields_of c.args.block.now)) c.in-Recall.is)
+returns-in_ok-amount-2 c = ap (option_map recalled) c.in_ok-amount-2.ensures ∙ sym (ap (λ k. detail_in k (fields_of c.args.block.now)) c.in-Recall.is)
 
 pub returns-in-Report : goal.returns-in-Report
 unfolding detail_in
 returns-in-Report c =
     let as-kind : Kind → Option DetailValue = λ k. detail_in k (fields_of c.args.block.now) in
-    c.read-answer.ensures ∙ ⊎_elim (λ (e : c.args.kind ≡ Report). sym (ap as-kind e)) (λ (e : c.args.kind ≡ Reply). sym (ap as-kind e)) c.in-Report.is
+    c.read_answer.ensures ∙ ⊎_elim (λ (e : c.args.kind ≡ Report). sym (ap as-kind e)) (λ (e : c.args.kind ≡ Reply). sym (ap as-kind e)) c.in-Report.is

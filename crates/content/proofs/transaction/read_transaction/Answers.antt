@@ -5,18 +5,18 @@ use Rattle.content.specs.Decoding.{transaction_in}
 use Rattle.block.proofs.Chaining.{given-some, given-none}
 use Rattle.content.proofs.transaction.read_transaction.Goals as goal
 
-pub returns-in-err-uetr : goal.returns-in-err-uetr
+pub returns-in_err-uetr : goal.returns-in_err-uetr
 unfolding transaction_in
-returns-in-err-uetr c = ap (option_map transaction_view) c.from-residual.ensures ∙ sym (given-none _ _ c.in-err-uetr.ensures)
+returns-in_err-uetr c = ap (option_map transaction_view) c.from_residual.ensures ∙ sym (given-none _ _ c.in_err-uetr.ensures)
 
-pub returns-in-err-end-to-end : goal.returns-in-err-end-to-end
+pub returns-in_err-end_to_end : goal.returns-in_err-end_to_end
 unfolding transaction_in
-returns-in-err-end-to-end c = ap (option_map transaction_view) c.from-residual-in-err-end-to-end.ensures ∙ sym (given-some _ _ _ c.in-ok-uetr.ensures ∙ given-none _ _ c.in-err-end-to-end.ensures)
+returns-in_err-end_to_end c = ap (option_map transaction_view) c.from_residual-in_err-end_to_end.ensures ∙ sym (given-some _ _ _ c.in_ok-uetr.ensures ∙ given-none _ _ c.in_err-end_to_end.ensures)
 
-pub returns-in-err-detail : goal.returns-in-err-detail
+pub returns-in_err-detail : goal.returns-in_err-detail
 unfolding transaction_in
-returns-in-err-detail c = ap (option_map transaction_view) c.from-residual-in-err-detail.ensures ∙ sym (given-some _ _ _ c.in-ok-uetr.ensures ∙ given-some _ _ _ c.in-ok-end-to-end.ensures ∙ given-none _ _ c.in-err-detail.ensures)
+returns-in_err-detail c = ap (option_map transaction_view) c.from_residual-in_err-detail.ensures ∙ sym (given-some _ _ _ c.in_ok-uetr.ensures ∙ given-some _ _ _ c.in_ok-end_to_end.ensures ∙ given-none _ _ c.in_err-detail.ensures)
 
 pub returns : goal.returns
 unfolding transaction_in
-returns c = sym (given-some _ _ _ c.in-ok-uetr.ensures ∙ given-some _ _ _ c.in-ok-end-to-end.ensures ∙ given-some _ _ _ c.in-ok-detail.ensures)
+returns c = sym (given-some _ _ _ c.in_ok-uetr.ensures ∙ given-some _ _ _ c.in_ok-end_to_end.ensures ∙ given-some _ _ _ c.in_ok-detail.ensures)

@@ -7,4 +7,4 @@ pub returns : goal.returns
 returns c =
     let a = 512 * c.args.at in
     let k : a + 512 - a ≡ 512 = omega arith in
-    c.read-case.ensures ∙ ap (λ n. case_in (fields_of (take n (drop a c.args.bytes.now)))) k
+    c.read_case.ensures ∙ ap (λ n. case_in (fields_of (take n (drop a c.args.bytes.now)))) k

@@ -10,5 +10,5 @@ returns c =
     let a = 512 * c.args.at in
     let k = a + 512 - a in
     let b = case_block (view c.args.case.now) in
-    ap (λ y. take a xs ++ (y ++ drop k (drop a xs))) (c.copy-from-slice.ensures.after ∙ c.case-block-block.ensures)
+    ap (λ y. take a xs ++ (y ++ drop k (drop a xs))) (c.copy_from_slice.ensures.after ∙ c.case_block-block.ensures)
     ∙ ap (λ r. take a xs ++ (b ++ r)) (drop-drop k a xs ∙ ap (λ n. drop n xs) (omega arith))

@@ -13,7 +13,7 @@ use Rattle.image.specs.Image.{image}
 use Rattle.image.proofs.Images.{with_block}
 use Rattle.image.proofs.Keeping.{image-push}
 use Rattle.image.proofs.saving.save.Goals as goal
-use Rattle.image.proofs.saving.save.Goals.{in-Some, in-default}
+use Rattle.image.proofs.saving.save.Goals.{in-Some, in_default}
 
 pub loop-at-init : goal.loop-at-init
 unfolding image
@@ -31,22 +31,22 @@ loop-at-preserved g c =
     let room = g.B.CaseBook.room book in
     let at = c.loop-at.at in
     let within : length cs ≤ room = g.B.CaseBook.keeps.within book c.requires in
-    elim c.match-case-at.branch [
+    elim c.match-case_at.branch [
       | in-Some w ↦
           let d = view w.in-Some.case in
-          let here : slice_get cs at ≡ Some d = sym c.case-at.ensures ∙ ap (option_map view) w.in-Some.is in
+          let here : slice_get cs at ≡ Some d = sym c.case_at.ensures ∙ ap (option_map view) w.in-Some.is in
           let n : length (take at cs) ≡ at = length-take-le at cs (omega arith) in
           let h : length (take at cs) < room = omega arith in
           let more : take (at + 1) cs ≡ take at cs ++ d ∷ [] = take_nth cs at d here in (
-            w.bytes-is ∙ w.write-at.ensures
+            w.bytes-is ∙ w.write_at.ensures
                 ∙ ap (λ b. with_block b at (case_block d)) c.loop-at.invariant.0
                 ∙ ap (λ k. with_block (image room (take at cs)) k (case_block d)) (sym n)
                 ∙ image-push room (take at cs) d c.loop-at.invariant.1 h
                 ∙ ap (image room) (sym more),
             subst (All Fit) (sym more) (All-push Fit (take at cs) d c.loop-at.invariant.1 (fit_case w.in-Some.case)),
           )
-      | in-default w ↦
-          let past : length cs ≤ at = nth_beyond cs at (sym c.case-at.ensures ∙ ap (option_map view) w.in-default.is) in
+      | in_default w ↦
+          let past : length cs ≤ at = nth_beyond cs at (sym c.case_at.ensures ∙ ap (option_map view) w.in_default.is) in
           absurd (omega arith)
     ]
 

@@ -22,5 +22,5 @@ loop-block-preserved c =
 
 pub returns : goal.returns
 returns c =
-    sym (ap (λ bs. gathered c.args.kind c.loop-block.number bs c.loop-block.findings) (blocks_of-end c.loop-block.rest.now c.in-default.ensures.cases))
+    sym (ap (λ bs. gathered c.args.kind c.loop-block.number bs c.loop-block.findings) (blocks_of-end c.loop-block.rest.now c.in_default.ensures.cases))
     ∙ c.loop-block.invariant.0

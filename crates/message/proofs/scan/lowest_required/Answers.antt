@@ -25,7 +25,7 @@ unfolding none
 loop-slot-preserved c =
     let i = c.loop-slot.slot-index in
     let s = get_or c.args.slots.now i none in
-    sym (ap (λ o. absent o (number_of s.tag) (tag_fault (drop (i + 1) c.args.slots.now) [])) c.in-default.is)
+    sym (ap (λ o. absent o (number_of s.tag) (tag_fault (drop (i + 1) c.args.slots.now) [])) c.in_default.is)
     ∙ sym (at_drop_more (λ ss. tag_fault ss []) c.args.slots.now i none c.loop-slot-test.true)
     ∙ c.loop-slot.invariant
 

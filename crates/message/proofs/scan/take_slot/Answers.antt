@@ -13,7 +13,7 @@ pub loop-rest-preserved : goal.loop-rest-preserved
 loop-rest-preserved c v fs =
     let h : 1 ≤ length c.loop-rest.rest.now = omega (arith, ltb-true, ltb-false) in
     c.loop-rest.invariant v fs
-    ∙ slot_passed _ (record { tag = c.args.tag; value = v }) fs c.loop-rest.rest.now h (λ e. c.if-tag-expected.false (e ∙ sym c.number-expected.ensures)) (omega (arith, c.number-expected.ensures)) c.in-default-need.is
+    ∙ slot_passed _ (record { tag = c.args.tag; value = v }) fs c.loop-rest.rest.now h (λ e. c.if-tag-expected.false (e ∙ sym c.number-expected.ensures)) (omega (arith, c.number-expected.ensures)) c.in_default-need.is
 
 pub returns : goal.returns
 returns c v fs =

@@ -6,4 +6,4 @@ use Rattle.cases.specs.Views.{view}
 use Rattle.rows.proofs.RowsBookCaseBook.case_at.Goals as goal
 
 pub returns : goal.returns
-returns c = ap (option_map view) c.row-at.ensures ∙ sym (nth-map view (rows_of c.args.self.now.table) c.args.at)
+returns c = ap (option_map view) c.row_at.ensures ∙ sym (nth-map view (rows_of c.args.self.now.table) c.args.at)

@@ -10,11 +10,11 @@ use Rattle.cases.specs.Views.{view, state_view}
 use Rattle.books.specs.Books.{names, Apart, changed, fit_capacity}
 use Rattle.rows.proofs.RowsBookCaseBook.change.Goals as goal
 
-pub returns-in-default : goal.returns-in-default
-returns-in-default c =
+pub returns-in_default : goal.returns-in_default
+returns-in_default c =
     let at = c.args.at in
     let rows = rows_of c.args.self.now.table in
-    let none : slice_get rows at ≡ None = sym c.row-at.ensures ∙ c.in-default.is in
+    let none : slice_get rows at ≡ None = sym c.row_at.ensures ∙ c.in_default.is in
     let past : ltb at (length (map view rows)) ≡ false = ap (ltb at) (length-map rows view) ∙ le-ltb _ _ (nth_beyond rows at none) in
     record {
       sound = c.requires;
@@ -28,7 +28,7 @@ returns c =
     let at = c.args.at in
     let rows = rows_of c.args.self.now.table in
     let s = state_view c.args.state in
-    let some : slice_get rows at ≡ Some c.in-Some.case = sym c.row-at.ensures ∙ c.in-Some.is in
+    let some : slice_get rows at ≡ Some c.in-Some.case = sym c.row_at.ensures ∙ c.in-Some.is in
     let within : ltb at (length (map view rows)) ≡ true = ap (ltb at) (length-map rows view) ∙ lt-ltb _ _ (nth_within rows at _ some) in
     let done : map view (rows_of c.replace.new.self) ≡ changed at s (map view rows) = ap (map view) c.replace.ensures.rows ∙ alter-map view (with_state s) rows at c.in-Some.case _ some refl in
     record {

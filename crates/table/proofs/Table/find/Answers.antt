@@ -10,4 +10,4 @@ returns g c =
     let test : g.row.R.Denot → Bool = λ x. g.R.Row.called x c.args.name.now in
     let part : take c.count-count.result t.rows.now ≡ take t.count t.rows.now = ap (λ n. take n t.rows.now) c.count-count.ensures.value ∙ take-length t.count t.rows.now in
     let whole : take (c.count-count.result - 0) t.rows.now ≡ take t.count t.rows.now = simp sub-zero part in
-    c.place-in.ensures ∙ ap (place test) whole
+    c.place_in.ensures ∙ ap (place test) whole

@@ -6,4 +6,4 @@ use Rattle.table.proofs.Table.holds.Goals as goal
 pub returns : goal.returns
 returns g c =
     let test : g.row.R.Denot → Bool = λ x. g.R.Row.called x c.args.name.now in
-    c.is-some.ensures ∙ ap is_some c.find.ensures ∙ sym (any_place test (rows_of c.args.self.now))
+    c.is_some.ensures ∙ ap is_some c.find.ensures ∙ sym (any_place test (rows_of c.args.self.now))

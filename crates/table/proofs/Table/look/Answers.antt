@@ -8,7 +8,7 @@ pub returns-in-Some : goal.returns-in-Some
 returns-in-Some g c =
     let test : g.row.R.Denot → Bool = λ x. g.R.Row.called x c.args.name.now in
     let rows = rows_of c.args.self.now in
-    c.row-at.ensures ∙ ap (at_place rows) (sym c.in-Some.is ∙ c.find.ensures) ∙ sym (first-place test rows)
+    c.row_at.ensures ∙ ap (at_place rows) (sym c.in-Some.is ∙ c.find.ensures) ∙ sym (first-place test rows)
 
 pub returns-in-None : goal.returns-in-None
 returns-in-None g c =

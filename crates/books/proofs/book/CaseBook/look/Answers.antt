@@ -8,7 +8,7 @@ use Rattle.books.proofs.book.CaseBook.look.Goals as goal
 pub returns-in-Some : goal.returns-in-Some
 returns-in-Some g c =
     let cs = g.Self.CaseBook.cases c.args.self.now in
-    c.case-at.ensures ∙ ap (at_place cs) (sym c.in-Some.is ∙ c.find.ensures) ∙ sym (first-place (has_name (name_view c.args.name.now)) cs)
+    c.case_at.ensures ∙ ap (at_place cs) (sym c.in-Some.is ∙ c.find.ensures) ∙ sym (first-place (has_name (name_view c.args.name.now)) cs)
 
 pub returns-in-None : goal.returns-in-None
 returns-in-None g c =

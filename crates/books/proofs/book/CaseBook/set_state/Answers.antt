@@ -16,12 +16,12 @@ returns-in-Some g c =
       cases = c.change.ensures.cases ∙ ap (λ o. alter_if o f cs) (sym c.in-Some.is ∙ c.find.ensures) ∙ sym (alter-place (has_name (name_view c.args.name.now)) f cs);
     }
 
-pub returns-in-default : goal.returns-in-default
-returns-in-default g c =
+pub returns-in_default : goal.returns-in_default
+returns-in_default g c =
     let cs = g.Self.CaseBook.cases c.args.self.now in
     let f = with_state (state_view c.args.state) in
     record {
       sound = c.requires;
       room = refl;
-      cases = ap (λ o. alter_if o f cs) (sym c.in-default.is ∙ c.find.ensures) ∙ sym (alter-place (has_name (name_view c.args.name.now)) f cs);
+      cases = ap (λ o. alter_if o f cs) (sym c.in_default.is ∙ c.find.ensures) ∙ sym (alter-place (has_name (name_view c.args.name.now)) f cs);
     }

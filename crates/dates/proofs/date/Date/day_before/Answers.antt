@@ -4,21 +4,21 @@ use Rattle.dates.specs.Views.{view}
 use Rattle.dates.proofs.Dates.{real_parts, within_month, month_back, year_back, none_before, day_before_within, day_before_month, day_before_year, day_before_none}
 use Rattle.dates.proofs.date.Date.day_before.Goals as goal
 
-pub invariant-of-result : goal.invariant-of-result
-invariant-of-result c =
+pub invariant_of-result : goal.invariant_of-result
+invariant_of-result c =
     let d = view c.args.self.now in
     ((within_month d (real_parts d c.args.self.now.real) c.if-self-gt1.true).0, tt)
 
-pub invariant-of-result-then-self-gt1-2 : goal.invariant-of-result-then-self-gt1-2
-invariant-of-result-then-self-gt1-2 c =
+pub invariant_of-result-then-self-gt1-2 : goal.invariant_of-result-then-self-gt1-2
+invariant_of-result-then-self-gt1-2 c =
     let d = view c.args.self.now in
     let p = (month_back d (real_parts d c.args.self.now.real) c.if-self-gt1.false c.if-self-gt1-2.true).0 in
     (rw c.month_length.ensures p, tt)
 
-pub invariant-of-result-then-self-gt-FIRST-YEAR : goal.invariant-of-result-then-self-gt-FIRST-YEAR
-invariant-of-result-then-self-gt-FIRST-YEAR c =
+pub invariant_of-result-then-self-gt-FIRST_YEAR : goal.invariant_of-result-then-self-gt-FIRST_YEAR
+invariant_of-result-then-self-gt-FIRST_YEAR c =
     let d = view c.args.self.now in
-    ((year_back d (real_parts d c.args.self.now.real) c.if-self-gt1.false c.if-self-gt1-2.false c.if-self-gt-FIRST-YEAR.true).0, tt)
+    ((year_back d (real_parts d c.args.self.now.real) c.if-self-gt1.false c.if-self-gt1-2.false c.if-self-gt-FIRST_YEAR.true).0, tt)
 
 pub returns-then-self-gt1 : goal.returns-then-self-gt1
 returns-then-self-gt1 c =
@@ -37,18 +37,18 @@ returns-then-self-gt1-2 c =
       last = subst (LastBefore d) (sym e) (month_back d (real_parts d c.args.self.now.real) c.if-self-gt1.false c.if-self-gt1-2.true);
     }
 
-pub returns-then-self-gt-FIRST-YEAR : goal.returns-then-self-gt-FIRST-YEAR
-returns-then-self-gt-FIRST-YEAR c =
+pub returns-then-self-gt-FIRST_YEAR : goal.returns-then-self-gt-FIRST_YEAR
+returns-then-self-gt-FIRST_YEAR c =
     let d = view c.args.self.now in
     record {
-      value = sym (day_before_year d c.if-self-gt1.false c.if-self-gt1-2.false c.if-self-gt-FIRST-YEAR.true);
-      last = year_back d (real_parts d c.args.self.now.real) c.if-self-gt1.false c.if-self-gt1-2.false c.if-self-gt-FIRST-YEAR.true;
+      value = sym (day_before_year d c.if-self-gt1.false c.if-self-gt1-2.false c.if-self-gt-FIRST_YEAR.true);
+      last = year_back d (real_parts d c.args.self.now.real) c.if-self-gt1.false c.if-self-gt1-2.false c.if-self-gt-FIRST_YEAR.true;
     }
 
-pub returns-else-self-gt-FIRST-YEAR : goal.returns-else-self-gt-FIRST-YEAR
-returns-else-self-gt-FIRST-YEAR c =
+pub returns-else-self-gt-FIRST_YEAR : goal.returns-else-self-gt-FIRST_YEAR
+returns-else-self-gt-FIRST_YEAR c =
     let d = view c.args.self.now in
     record {
-      value = sym (day_before_none d c.if-self-gt1.false c.if-self-gt1-2.false c.if-self-gt-FIRST-YEAR.false);
-      last = none_before d (real_parts d c.args.self.now.real) c.if-self-gt1.false c.if-self-gt1-2.false c.if-self-gt-FIRST-YEAR.false;
+      value = sym (day_before_none d c.if-self-gt1.false c.if-self-gt1-2.false c.if-self-gt-FIRST_YEAR.false);
+      last = none_before d (real_parts d c.args.self.now.real) c.if-self-gt1.false c.if-self-gt1-2.false c.if-self-gt-FIRST_YEAR.false;
     }

@@ -8,5 +8,5 @@ pub returns : goal.returns
 unfolding date_digits
 returns c =
     let d = view c.args.self.now in
-    let e : c.last_digit.result ∷ c.last_digit-2.result ∷ c.last_digit-3.result ∷ c.last-digit-4.result ∷ c.last-digit-5.result ∷ c.last-digit-6.result ∷ c.last-digit-7.result ∷ c.last-digit-8.result ∷ [] ≡ date_digits d = cc in
+    let e : c.last_digit.result ∷ c.last_digit-2.result ∷ c.last_digit-3.result ∷ c.last_digit-4.result ∷ c.last_digit-5.result ∷ c.last_digit-6.result ∷ c.last_digit-7.result ∷ c.last_digit-8.result ∷ [] ≡ date_digits d = cc in
     record { value = e; back = ap read_date e ∙ reads_back d c.args.self.now.real }

@@ -11,7 +11,7 @@ returns c =
     let new = c.fill.new.self in
     let zeros : new ≡ replicate (length old) 0 = c.fill.ensures.after (λ y e. e) in
     let long : length new ≡ length old = c.fill.ensures.len in
-    let p = and_parts (eqb (length old % 512) 0) (fit_capacity (length old / 512)) (sym c.if-not-has-fit-length.ensures) in
+    let p = and_parts (eqb (length old % 512) 0) (fit_capacity (length old / 512)) (sym c.if-not-has_fit_length.ensures) in
     let whole = eqb-true (length old % 512) 0 p.0 in
     let k : length old ≡ 512 * (length new / 512 - 0) = omega arith in (
       record {
@@ -23,5 +23,5 @@ returns c =
       },
       refl,
       ap (λ n. n / 512) long,
-      sym c.if-not-has-fit-length.ensures,
+      sym c.if-not-has_fit_length.ensures,
     )

@@ -6,8 +6,8 @@ use Rattle.image.proofs.Images.{length-cases_in}
 use Rattle.image.proofs.Keeping.{length_whole, block_read}
 use Rattle.image.proofs.book.ImageBookCaseBook.case_at.Goals as goal
 
-pub read-at-requires : goal.read-at-requires
-read-at-requires c =
+pub read_at-requires : goal.read_at-requires
+read_at-requires c =
     let b = c.args.self.now in
     let bytes = b.bytes.now in
     omega (arith, length_whole bytes (cases_of b) c.requires, length-cases_in b.count bytes, c.requires.within)
@@ -18,7 +18,7 @@ returns-then-at-self c =
     let cs = cases_of b in
     let here : c.args.at < length cs = rw (length-cases_in b.count b.bytes.now) c.if-at-self.true in
     let some = slice_get-get_or cs c.args.at vacant here in
-    c.read-at.ensures ∙ block_read b.bytes.now cs c.requires c.args.at (get_or cs c.args.at vacant) some ∙ sym some
+    c.read_at.ensures ∙ block_read b.bytes.now cs c.requires c.args.at (get_or cs c.args.at vacant) some ∙ sym some
 
 pub returns-else-at-self : goal.returns-else-at-self
 returns-else-at-self c =

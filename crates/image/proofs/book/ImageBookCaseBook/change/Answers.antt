@@ -14,11 +14,11 @@ use Rattle.image.proofs.Images.{length-cases_in, with_block}
 use Rattle.image.proofs.Keeping.{length_whole, cases_again, changed_image}
 use Rattle.image.proofs.book.ImageBookCaseBook.change.Goals as goal
 
-pub returns-in-default : goal.returns-in-default
-returns-in-default c =
+pub returns-in_default : goal.returns-in_default
+returns-in_default c =
     let cs = cases_of c.args.self.now in
     let at = c.args.at in
-    let none : slice_get cs at ≡ None = sym c.case-at.ensures ∙ ap (option_map view) c.in-default.is in
+    let none : slice_get cs at ≡ None = sym c.case_at.ensures ∙ ap (option_map view) c.in_default.is in
     record {
       sound = c.requires;
       room = refl;
@@ -26,11 +26,11 @@ returns-in-default c =
       cases = sym (alter_past (with_state (state_view c.args.state)) cs at none);
     }
 
-pub write-at-requires : goal.write-at-requires
-write-at-requires c =
+pub write_at-requires : goal.write_at-requires
+write_at-requires c =
     let b = c.args.self.now in
     let cs = cases_of b in
-    let some : slice_get cs c.args.at ≡ Some (view c.in-Some.case) = sym c.case-at.ensures ∙ ap (option_map view) c.in-Some.is in
+    let some : slice_get cs c.args.at ≡ Some (view c.in-Some.case) = sym c.case_at.ensures ∙ ap (option_map view) c.in-Some.is in
     let here : c.args.at < length cs = nth_within cs c.args.at _ some in
     omega (arith, length_whole b.bytes.now cs c.requires, c.requires.within)
 
@@ -42,9 +42,9 @@ returns c =
     let cs = cases_of b in
     let s = state_view c.args.state in
     let old = view c.in-Some.case in
-    let some : slice_get cs at ≡ Some old = sym c.case-at.ensures ∙ ap (option_map view) c.in-Some.is in
-    let more = c.write-at.new.bytes in
-    let i : ImageOf more (changed at s cs) = subst (λ x. ImageOf x (changed at s cs)) (sym c.write-at.ensures) (changed_image bytes cs c.requires s (fit_closing c.args.state) at old some) in
+    let some : slice_get cs at ≡ Some old = sym c.case_at.ensures ∙ ap (option_map view) c.in-Some.is in
+    let more = c.write_at.new.bytes in
+    let i : ImageOf more (changed at s cs) = subst (λ x. ImageOf x (changed at s cs)) (sym c.write_at.ensures) (changed_image bytes cs c.requires s (fit_closing c.args.state) at old some) in
     let m : length (changed at s cs) ≡ b.count = length-alter (with_state s) cs at ∙ length-cases_in b.count bytes in
     let again : cases_in b.count more ≡ changed at s cs = ap (λ k. cases_in k more) (sym m) ∙ cases_again more (changed at s cs) i in
     let long : length more ≡ length bytes = search rules in

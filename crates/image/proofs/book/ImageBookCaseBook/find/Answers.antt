@@ -14,8 +14,8 @@ overflow-mul-self c =
     let bytes = b.bytes.now in
     omega (arith, capacity_most bytes (cases_of b) c.requires, length-cases_in b.count bytes, c.requires.within)
 
-pub slice-bounds-find-in-end : goal.slice-bounds-find-in-end
-slice-bounds-find-in-end c =
+pub slice_bounds-find_in-end : goal.slice_bounds-find_in-end
+slice_bounds-find_in-end c =
     let b = c.args.self.now in
     let bytes = b.bytes.now in
     omega (arith, length_whole bytes (cases_of b) c.requires, length-cases_in b.count bytes, c.requires.within)
@@ -26,4 +26,4 @@ returns c =
     let bytes = b.bytes.now in
     let n = name_view c.args.name.now in
     let k : 512 * b.count - 0 ≡ 512 * length (cases_of b) = omega (arith, length-cases_in b.count bytes) in
-    c.find-in.ensures ∙ ap (λ m. place (named n) (blocks_of (take m bytes))) k ∙ name_found bytes (cases_of b) c.requires n
+    c.find_in.ensures ∙ ap (λ m. place (named n) (blocks_of (take m bytes))) k ∙ name_found bytes (cases_of b) c.requires n

@@ -12,11 +12,11 @@ use Rattle.image.proofs.Images.{length-cases_in, with_block}
 use Rattle.image.proofs.Keeping.{fit_state, length_whole, cases_again, opened_image}
 use Rattle.image.proofs.book.ImageBookCaseBook.open.Goals as goal
 
-pub returns-then-is-some : goal.returns-then-is-some
-returns-then-is-some c =
+pub returns-then-is_some : goal.returns-then-is_some
+returns-then-is_some c =
     let n = (view c.args.case).name in
     let cs = cases_of c.args.self.now in
-    let hit : stands n cs ≡ true = any_place (has_name n) cs ∙ ap is_some (sym c.find.ensures) ∙ sym c.is-some.ensures ∙ c.if-is-some.true in
+    let hit : stands n cs ≡ true = any_place (has_name n) cs ∙ ap is_some (sym c.find.ensures) ∙ sym c.is_some.ensures ∙ c.if-is_some.true in
     record { sound = c.requires; room = refl; answer = sym (cond-true _ _ _ hit); cases = refl }
 
 pub returns-then-at-capacity : goal.returns-then-at-capacity
@@ -24,12 +24,12 @@ returns-then-at-capacity c =
     let b = c.args.self.now in
     let n = (view c.args.case).name in
     let cs = cases_of b in
-    let missed : stands n cs ≡ false = any_place (has_name n) cs ∙ ap is_some (sym c.find.ensures) ∙ sym c.is-some.ensures ∙ c.if-is-some.false in
+    let missed : stands n cs ≡ false = any_place (has_name n) cs ∙ ap is_some (sym c.find.ensures) ∙ sym c.is_some.ensures ∙ c.if-is_some.false in
     let full : ltb (length cs) (room_of b) ≡ false = le-ltb (length cs) (room_of b) (omega (arith, length-cases_in b.count b.bytes.now)) in
     record { sound = c.requires; room = refl; answer = sym (cond-false _ _ _ missed ∙ cond-false _ _ _ full); cases = refl }
 
-pub write-at-requires : goal.write-at-requires
-write-at-requires c =
+pub write_at-requires : goal.write_at-requires
+write_at-requires c =
     let b = c.args.self.now in
     omega (arith, length_whole b.bytes.now (cases_of b) c.requires)
 
@@ -39,12 +39,12 @@ returns c =
     let bytes = b.bytes.now in
     let d = as_opened (view c.args.case) in
     let cs = cases_of b in
-    let lost : is_some (place_of d.name cs) ≡ false = ap is_some (sym c.find.ensures) ∙ sym c.is-some.ensures ∙ c.if-is-some.false in
+    let lost : is_some (place_of d.name cs) ≡ false = ap is_some (sym c.find.ensures) ∙ sym c.is_some.ensures ∙ c.if-is_some.false in
     let missed : stands d.name cs ≡ false = any_place (has_name d.name) cs ∙ lost in
     let n = length-cases_in b.count bytes in
     let room : length cs < room_of b = omega (arith, n) in
-    let more = c.write-at.new.bytes in
-    let e : more ≡ with_block bytes (length cs) (case_block d) = c.write-at.ensures ∙ ap (λ k. with_block bytes k (case_block d)) (sym n) in
+    let more = c.write_at.new.bytes in
+    let e : more ≡ with_block bytes (length cs) (case_block d) = c.write_at.ensures ∙ ap (λ k. with_block bytes k (case_block d)) (sym n) in
     let fit = fit_state d.state tt (view c.args.case) (fit_case c.args.case) in
     let i : ImageOf more (cs ++ d ∷ []) = subst (λ x. ImageOf x (cs ++ d ∷ [])) (sym e) (opened_image bytes cs c.requires d fit room lost) in
     let m : length (cs ++ d ∷ []) ≡ b.count + 1 = length_push cs d ∙ ap (λ k. k + 1) n in

@@ -8,4 +8,4 @@ unfolding amount_bytes
 returns c =
     let k = c.args.self.now.kopecks in
     let f : amount k ≡ true = search rules in
-    record { value = c.to-be-bytes.ensures; back = ap read_amount c.to-be-bytes.ensures ∙ reads_back k f }
+    record { value = c.to_be_bytes.ensures; back = ap read_amount c.to_be_bytes.ensures ∙ reads_back k f }

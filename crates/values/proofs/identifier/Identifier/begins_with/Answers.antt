@@ -6,5 +6,5 @@ pub returns : goal.returns
 returns c =
     let id = c.args.self.now.bytes in
     let code = c.args.code.now.bytes in
-    let e : c.same-bytes.result ≡ begins_with id code = c.same-bytes.ensures.value in
+    let e : c.same_bytes.result ≡ begins_with id code = c.same_bytes.ensures.value in
     record { value = e; suits = e ∙ sym (ap (λ x. x && begins_with id code) c.args.self.now.formed) }

@@ -11,5 +11,5 @@ unfolding is_dated
 returns c =
     let id = c.args.self.now.bytes in
     let day = c.args.date.now in
-    let e : c.same-bytes.result ≡ is_dated id (view day) = c.same-bytes.ensures.value ∙ ap (same_bytes (date_part id)) c.digits.ensures.value in
+    let e : c.same_bytes.result ≡ is_dated id (view day) = c.same_bytes.ensures.value ∙ ap (same_bytes (date_part id)) c.digits.ensures.value in
     record { value = e; reads = Decides-at _ _ e (dated_decides id (view day) day.real) }

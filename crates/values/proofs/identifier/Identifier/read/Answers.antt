@@ -3,5 +3,5 @@ use Rattle.octets.specs.Bytes.{kept}
 use Rattle.values.proofs.Identifiers.{wrong_length}
 use Rattle.values.proofs.identifier.Identifier.read.Goals as goal
 
-pub returns-in-default : goal.returns-in-default
-returns-in-default c = sym (ap (λ fit. kept fit c.args.bytes.now) (wrong_length c.args.bytes.now c.in-default.ensures.1))
+pub returns-in_default : goal.returns-in_default
+returns-in_default c = sym (ap (λ fit. kept fit c.args.bytes.now) (wrong_length c.args.bytes.now c.in_default.ensures.1))

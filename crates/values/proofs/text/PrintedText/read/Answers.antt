@@ -3,8 +3,8 @@ use Rattle.values.specs.Texts.{padded, printed}
 use Rattle.values.proofs.Padding.{take-padded}
 use Rattle.values.proofs.text.PrintedText.read.Goals as goal
 
-pub invariant-of-result : goal.invariant-of-result
-invariant-of-result g c =
+pub invariant_of-result : goal.invariant_of-result
+invariant_of-result g c =
     let bs = c.args.bytes.now in
     let e : take (length bs) c.pad.result ≡ bs = ap (take (length bs)) c.pad.ensures ∙ take-padded g.row.W bs in
     let f : printed g.row.W bs ≡ true = search rules in
