@@ -4,8 +4,8 @@ use Rattle.block.specs.Block.{check, weighted_sum}
 use Rattle.block.proofs.Weighing.{weight_bound, weighted_sum-more}
 use Rattle.block.proofs.check.check_of.Goals as goal
 
-pub overflow-add-sum-in-loop-i : goal.overflow-add-sum-in-loop-i
-overflow-add-sum-in-loop-i c =
+pub overflow_add-sum-in-loop-i : goal.overflow_add-sum-in-loop-i
+overflow_add-sum-in-loop-i c =
     let b : get_or c.args.block.now c.loop-i.i 0 < 256 = search rules in
     let t = weight_bound c.loop-i.i (get_or c.args.block.now c.loop-i.i 0) c.loop-i-test.true b in
     search rules

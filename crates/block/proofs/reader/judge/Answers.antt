@@ -6,29 +6,29 @@ use Rattle.block.specs.Reader.{Steps}
 use Rattle.block.proofs.Laws.{only_form}
 use Rattle.block.proofs.reader.judge.Goals as goal
 
-pub returns-then-not-has-check : goal.returns-then-not-has-check
+pub returns-then-not-has_check : goal.returns-then-not-has_check
 unfolding reading
-returns-then-not-has-check c =
+returns-then-not-has_check c =
     record {
-      answer = sym (ap judged (cond-false _ _ _ (sym c.if-not-has-check.ensures)));
+      answer = sym (ap judged (cond-false _ _ _ (sym c.if-not-has_check.ensures)));
       only = only_form c.args.block.now (c.told-block, c.fits-block);
     }
 
-pub returns-in-err-next : goal.returns-in-err-next
+pub returns-in_err-next : goal.returns-in_err-next
 unfolding reading
-returns-in-err-next c =
-    let p = err_from_is_err_and c.from-residual.result c.from-residual.ensures.1 in
-    let a : judged (reading c.args.block.now) ≡ judged (layout c.args.block.now) = ap judged (cond-true _ _ _ (sym c.if-not-has-check.ensures)) in
+returns-in_err-next c =
+    let p = err_from_is_err_and c.from_residual.result c.from_residual.ensures.1 in
+    let a : judged (reading c.args.block.now) ≡ judged (layout c.args.block.now) = ap judged (cond-true _ _ _ (sym c.if-not-has_check.ensures)) in
     record {
-      answer = p.1 ∙ ap Err p.2 ∙ sym (ap judged c.in-err-next.ensures.0) ∙ c.loop.invariant ∙ sym a;
+      answer = p.1 ∙ ap Err p.2 ∙ sym (ap judged c.in_err-next.ensures.0) ∙ c.loop.invariant ∙ sym a;
       only = only_form c.args.block.now (c.told-block, c.fits-block);
     }
 
 pub returns : goal.returns
 unfolding reading
 returns c =
-    let a : judged (reading c.args.block.now) ≡ judged (layout c.args.block.now) = ap judged (cond-true _ _ _ (sym c.if-not-has-check.ensures)) in
-    let k : Steps c.loop.fields (Ok None) c.next.new.self = subst (λ o. Steps c.loop.fields (Ok o) c.next.new.self) c.in-default.is c.in-ok-next.ensures in
+    let a : judged (reading c.args.block.now) ≡ judged (layout c.args.block.now) = ap judged (cond-true _ _ _ (sym c.if-not-has_check.ensures)) in
+    let k : Steps c.loop.fields (Ok None) c.next.new.self = subst (λ o. Steps c.loop.fields (Ok o) c.next.new.self) c.in_default.is c.in_ok-next.ensures in
     record {
       answer = sym (ap judged k.0) ∙ c.loop.invariant ∙ sym a;
       only = only_form c.args.block.now (c.told-block, c.fits-block);

@@ -46,8 +46,8 @@ returns-in_err-case c =
     subst P (sym c.from_residual-in_err-case.ensures)
     (no_case bytes rest c.loop-rest.at c.loop-rest.invariant.0 (sym c.loop-rest-test.ensures) (λ d f e. c.in_err-case.ensures d f (k.0 ∙ e)))
 
-pub overflow-mul-at : goal.overflow-mul-at
-overflow-mul-at c =
+pub overflow_mul-at : goal.overflow_mul-at
+overflow_mul-at c =
     let bytes = c.args.bytes.now in
     let f = fit_numbers (length bytes) c.loop-rest.invariant.1 in
     omega (arith, length_rest bytes c.loop-rest.rest.now c.loop-rest.at c.loop-rest.invariant.0)
@@ -71,8 +71,8 @@ returns-then-is_some c =
     name_again bytes rest c.loop-rest.at s (sym c.loop-rest-test.ensures) (view case) (fit_case case) (sym k.0 ∙ c.in_ok-case.ensures)
     (found bytes rest c.loop-rest.at s c.find_in.result (view case) c.find_in.ensures ∙ sym c.if-is_some.ensures)
 
-pub overflow-add-at : goal.overflow-add-at
-overflow-add-at c =
+pub overflow_add-at : goal.overflow_add-at
+overflow_add-at c =
     let f = fit_numbers (length c.args.bytes.now) c.loop-rest.invariant.1 in
     omega (arith, length_rest c.args.bytes.now c.loop-rest.rest.now c.loop-rest.at c.loop-rest.invariant.0)
 

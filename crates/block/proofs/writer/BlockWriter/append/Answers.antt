@@ -21,13 +21,13 @@ lay-requires c =
     let n : length c.args.self.now.block.now ≡ 512 = whole c.args.self.now c.requires.sound in
     (omega arith, omega arith)
 
-pub overflow-add-self : goal.overflow-add-self
-overflow-add-self c =
+pub overflow_add-self : goal.overflow_add-self
+overflow_add-self c =
     let r = fits c.args.self.now c.args.tag c.args.value.now c.requires.sound c.requires.rises c.requires.listed in
     search rules
 
-pub overflow-add-self-2 : goal.overflow-add-self-2
-overflow-add-self-2 c =
+pub overflow_add-self-2 : goal.overflow_add-self-2
+overflow_add-self-2 c =
     let r = fits c.args.self.now c.args.tag c.args.value.now c.requires.sound c.requires.rises c.requires.listed in
     search rules
 

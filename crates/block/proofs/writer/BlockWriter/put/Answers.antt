@@ -4,11 +4,11 @@ use Rattle.block.specs.Writer.{written}
 use Rattle.block.proofs.Putting.{unlisted_tag, unlisted_length, not_rising, is_put, listed_by_rule}
 use Rattle.block.proofs.writer.BlockWriter.put.Goals as goal
 
-pub returns-in-default : goal.returns-in-default
-returns-in-default c =
+pub returns-in_default : goal.returns-in_default
+returns-in_default c =
     record {
       sound = c.requires;
-      answer = sym (unlisted_tag (last_tag 0 (written c.args.self.now)) c.args.tag (length c.args.value.now) (sym c.in-default.ensures.value));
+      answer = sym (unlisted_tag (last_tag 0 (written c.args.self.now)) c.args.tag (length c.args.value.now) (sym c.in_default.ensures.value));
       fields = refl;
       named = refl;
     }

@@ -8,8 +8,8 @@ use Rattle.image.proofs.Images.{length-cases_in}
 use Rattle.image.proofs.Keeping.{length_whole, capacity_most, name_found}
 use Rattle.image.proofs.book.ImageBookCaseBook.find.Goals as goal
 
-pub overflow-mul-self : goal.overflow-mul-self
-overflow-mul-self c =
+pub overflow_mul-self : goal.overflow_mul-self
+overflow_mul-self c =
     let b = c.args.self.now in
     let bytes = b.bytes.now in
     omega (arith, capacity_most bytes (cases_of b) c.requires, length-cases_in b.count bytes, c.requires.within)
