@@ -7,18 +7,18 @@ use Rattle.dates.proofs.date.Date.day_before.Goals as goal
 pub invariant_of-result : goal.invariant_of-result
 invariant_of-result c =
     let d = view c.args.self.now in
-    ((within_month d (real_parts d c.args.self.now.real) c.if-self-gt1.true).0, tt)
+    record { real = (within_month d (real_parts d c.args.self.now.real) c.if-self-gt1.true).0 }
 
 pub invariant_of-result-then-self-gt1-2 : goal.invariant_of-result-then-self-gt1-2
 invariant_of-result-then-self-gt1-2 c =
     let d = view c.args.self.now in
     let p = (month_back d (real_parts d c.args.self.now.real) c.if-self-gt1.false c.if-self-gt1-2.true).0 in
-    (rw c.month_length.ensures p, tt)
+    record { real = rw c.month_length.ensures p }
 
 pub invariant_of-result-then-self-gt-FIRST_YEAR : goal.invariant_of-result-then-self-gt-FIRST_YEAR
 invariant_of-result-then-self-gt-FIRST_YEAR c =
     let d = view c.args.self.now in
-    ((year_back d (real_parts d c.args.self.now.real) c.if-self-gt1.false c.if-self-gt1-2.false c.if-self-gt-FIRST_YEAR.true).0, tt)
+    record { real = (year_back d (real_parts d c.args.self.now.real) c.if-self-gt1.false c.if-self-gt1-2.false c.if-self-gt-FIRST_YEAR.true).0 }
 
 pub returns-then-self-gt1 : goal.returns-then-self-gt1
 returns-then-self-gt1 c =
