@@ -6,8 +6,8 @@ ghost use Rattle.values.specs.Identifiers.{date_part, identifier, read_identifie
 ghost use Rattle.dates.specs.Views.{view};
 
 use crate::member_code::MemberCode;
-use octets::{Alphabet, same_bytes};
 use dates::date::Date;
+use octets::{Alphabet, same_bytes};
 
 /// How many bytes an identifier has.
 const LENGTH: usize = 20;

@@ -34,24 +34,24 @@ returns-then-tag-self c =
     (fields_from_fault c.args.self.now.at p xs h c.if-tag-ne0.true f, refl)
 
 -- there is no further field: fewer than two bytes are left, or a zero stands in the tag's place
-pub returns-in_err-all_zeros : goal.returns-in_err-all_zeros
-returns-in_err-all_zeros c =
+pub returns-in_err-all_zeros-in_default : goal.returns-in_err-all_zeros-in_default
+returns-in_err-all_zeros-in_default c =
     let p = err_from_is_err_and c.from_residual.result c.from_residual.ensures.1 in
     let v : ahead c.args.self.now ≡ blank c.args.self.now.at c.args.self.now.rest.now =
     elim c.in_default.branch [
       | in_default-via-then-self-lt2 w ↦ fields_from-short c.args.self.now.at c.args.self.now.last c.args.self.now.rest.now (omega (arith, ltb-true, ltb-false))
       | in_default-via-in-len2-up+else-tag-ne0 w ↦ fields_from-end c.args.self.now.at c.args.self.now.last c.args.self.now.rest.now w.if-tag-ne0.false
     ] in
-    rw (p.1, p.2) (v ∙ judged_fault _ _ c.in_err-all_zeros.ensures, refl)
+    rw (p.1, p.2) (v ∙ judged_fault _ _ c.in_err-all_zeros-in_default.ensures, refl)
 
-pub returns-in_ok-all_zeros : goal.returns-in_ok-all_zeros
-returns-in_ok-all_zeros c =
+pub returns-in_ok-all_zeros-in_default : goal.returns-in_ok-all_zeros-in_default
+returns-in_ok-all_zeros-in_default c =
     let v : ahead c.args.self.now ≡ blank c.args.self.now.at c.args.self.now.rest.now =
     elim c.in_default.branch [
       | in_default-via-then-self-lt2 w ↦ fields_from-short c.args.self.now.at c.args.self.now.last c.args.self.now.rest.now (omega (arith, ltb-true, ltb-false))
       | in_default-via-in-len2-up+else-tag-ne0 w ↦ fields_from-end c.args.self.now.at c.args.self.now.last c.args.self.now.rest.now w.if-tag-ne0.false
     ] in
-    (v ∙ judged_blank c.args.self.now.at c.args.self.now.rest.now c.in_ok-all_zeros.ensures, refl)
+    (v ∙ judged_blank c.args.self.now.at c.args.self.now.rest.now c.in_ok-all_zeros-in_default.ensures, refl)
 
 same_step : {v w xs ys : List ℕ} {s t at bt : ℕ} → s ≡ t → v ≡ w → xs ≡ ys → at ≡ bt → led (record { tag = s; value = v }) (fields_from at t xs) ≡ led (record { tag = t; value = w }) (fields_from bt t ys)
 same_step a b d e = cc
@@ -74,7 +74,7 @@ returns-else-tail-n c =
       form = ap (λ m. option_map (λ r. r.form) (rule_of m)) c.in-Some.ensures.numbered ∙ sym (ap (option_map (λ r. r.form)) c.in-Some.ensures.value) ∙ ap Some (sym c.of.ensures.form);
       at = refl;
       block = refl;
-      next_at = omega (arith, ap length c.of.ensures.bytes, c.split_at.ensures.front-len);
+      next_at = omega (arith, ap length c.of.ensures.bytes, c.split_at.ensures.front_len);
       next_block = refl;
       fewer = omega (arith, ap length b, length-drop (get_or xs 1 0) (drop 2 xs));
     }

@@ -13,7 +13,7 @@ returns-in-Ok c =
     let n : length bs ≡ 8 = search rules in
     let m : c.from_be_bytes.result ≡ number_from_digits 256 bs = c.from_be_bytes.ensures ∙ sym (number_places c.in-Ok.array (ap length same ∙ n)) ∙ ap (number_from_digits 256) same in
     let v = c.new.ensures ∙ ap amount_of m in
-    record { value = v ∙ sym (cond-true (eqb (length bs) 8) _ _ (eq-eqb (length bs) 8 n)); form = only_form c.new.result bs n (λ i. (c.type-inv.bytes i).fits) v }
+    record { value = v ∙ sym (cond-true (eqb (length bs) 8) _ _ (eq-eqb (length bs) 8 n)); form = only_form c.new.result bs n (λ i. (c.type_inv.bytes i).fits) v }
 
 pub returns-in-Err : goal.returns-in-Err
 unfolding read_amount

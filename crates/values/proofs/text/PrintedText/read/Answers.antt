@@ -8,7 +8,7 @@ invariant_of-result g c =
     let bs = c.args.bytes.now in
     let e : take (length bs) c.pad.result ≡ bs = ap (take (length bs)) c.pad.ensures ∙ take-padded g.row.W bs in
     let f : printed g.row.W bs ≡ true = search rules in
-    ((search rules, ap (printed g.row.W) e ∙ f, c.pad.ensures ∙ ap (padded g.row.W) (sym e)), tt)
+    record { formed = (search rules, ap (printed g.row.W) e ∙ f, c.pad.ensures ∙ ap (padded g.row.W) (sym e)) }
 
 pub returns : goal.returns
 returns g c =
