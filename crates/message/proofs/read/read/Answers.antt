@@ -8,7 +8,7 @@ returns-in-Some c =
     record {
       answer = refused_err _ c.in-Some.refusal c.in-Some.ensures;
       back = written_reads_back;
-      only = only_message c.args.bytes.now (λ i. (c.type-inv.bytes i).fits);
+      only = only_message c.args.bytes.now (λ i. (c.type_inv.bytes i).fits);
     }
 
 pub returns-in-None : goal.returns-in-None
@@ -16,5 +16,5 @@ returns-in-None c =
     record {
       answer = (refl, sym c.in-None.ensures);
       back = written_reads_back;
-      only = only_message c.args.bytes.now (λ i. (c.type-inv.bytes i).fits);
+      only = only_message c.args.bytes.now (λ i. (c.type_inv.bytes i).fits);
     }

@@ -8,7 +8,7 @@ use Rattle.message.specs.Shapes.{tag_fault, absent}
 use Rattle.message.proofs.scan.lowest_required.Goals as goal
 
 none : Slot
-none = record { tag = Kind; goal = Required }
+none = record { tag = Kind; need = Required }
 
 pub returns-in-Required : goal.returns-in-Required
 unfolding none

@@ -17,4 +17,4 @@ loop-rest-preserved c v fs =
 
 pub returns : goal.returns
 returns c v fs =
-    c.loop-rest.invariant v fs ∙ no_slot (record { tag = Kind; goal = Required }) (record { tag = c.args.tag; value = v }) fs c.loop-rest.rest.now (omega (arith, ltb-true, ltb-false))
+    c.loop-rest.invariant v fs ∙ no_slot (record { tag = Kind; need = Required }) (record { tag = c.args.tag; value = v }) fs c.loop-rest.rest.now (omega (arith, ltb-true, ltb-false))
