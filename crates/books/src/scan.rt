@@ -18,8 +18,8 @@ pub trait CaseCondition {
 
 /// Whether some case of the book meets the condition.
 pub fn any_case<B: CaseBook, C: CaseCondition>(book: &B, condition: &C) -> bool
-    requires { sound book.now }
-    ensures { result ≡ any (met condition.now) (cases book.now) }
+    requires { B.sound book.now }
+    ensures { result ≡ any (C.met condition.now) (B.cases book.now) }
 {
     for at in 0..book.count() {
         if let Some(case) = book.case_at(at) {

@@ -49,8 +49,8 @@ impl Totals {
 
 /// The totals of a book.
 pub fn totals_of<B: CaseBook>(book: &B) -> Totals
-    requires { sound book.now }
-    ensures { result ≡ totals_of (cases book.now) }
+    requires { B.sound book.now }
+    ensures { result ≡ totals_of (B.cases book.now) }
 {
     let mut sums = Totals {
         open: 0,

@@ -14,9 +14,9 @@ ghost use Rattle.coding.specs.Decoding.{formed_identifier_in, name_in, original_
 
 use block::BLOCK;
 use block::writer::BlockWriter;
-use octets::same_bytes;
 use cases::case::{Case, CaseName, Original, OriginalKind, State, Subject};
 use items::{amount, byte, end_to_end, identifier, member_code, uetr};
+use octets::same_bytes;
 use tags::listing::Tag;
 use values::identifier::Identifier;
 

@@ -6,13 +6,13 @@ use Rattle.content.specs.Items.{reason_in}
 use Rattle.block.proofs.Chaining.{absent_field, fit_field, unfit_field}
 use Rattle.content.proofs.fields.reason.Goals as goal
 
-pub returns-in_err-reason : goal.returns-in_err-reason
+pub returns-in_err-reason-in-Some : goal.returns-in_err-reason-in-Some
 unfolding reason_in
-returns-in_err-reason c = ap (option_map (option_map (λ code. code.bytes))) c.from_residual.ensures ∙ unfit_field (fields_of c.args.block.now) 20 c.number.result c.number.ensures read_reason _ c.in-Some.ensures.found c.in_err-reason.ensures
+returns-in_err-reason-in-Some c = ap (option_map (option_map (λ code. code.bytes))) c.from_residual.ensures ∙ unfit_field (fields_of c.args.block.now) 20 c.number.result c.number.ensures read_reason _ c.in-Some.ensures.found c.in_err-reason-in-Some.ensures
 
-pub returns-in_ok-reason : goal.returns-in_ok-reason
+pub returns-in_ok-reason-in-Some : goal.returns-in_ok-reason-in-Some
 unfolding reason_in
-returns-in_ok-reason c = fit_field (fields_of c.args.block.now) 20 c.number.result c.number.ensures read_reason _ _ c.in-Some.ensures.found c.in_ok-reason.ensures
+returns-in_ok-reason-in-Some c = fit_field (fields_of c.args.block.now) 20 c.number.result c.number.ensures read_reason _ _ c.in-Some.ensures.found c.in_ok-reason-in-Some.ensures
 
 pub returns-in-None : goal.returns-in-None
 unfolding reason_in

@@ -7,13 +7,13 @@ use Rattle.content.specs.Items.{text_in}
 use Rattle.block.proofs.Chaining.{absent_field, fit_field, unfit_field}
 use Rattle.content.proofs.fields.text.Goals as goal
 
-pub returns-in_err-text : goal.returns-in_err-text
+pub returns-in_err-text-in-Some : goal.returns-in_err-text-in-Some
 unfolding text_in
-returns-in_err-text c = ap (option_map (option_map characters)) c.from_residual.ensures ∙ unfit_field (fields_of c.args.block.now) 21 c.number.result c.number.ensures read_text _ c.in-Some.ensures.found c.in_err-text.ensures
+returns-in_err-text-in-Some c = ap (option_map (option_map characters)) c.from_residual.ensures ∙ unfit_field (fields_of c.args.block.now) 21 c.number.result c.number.ensures read_text _ c.in-Some.ensures.found c.in_err-text-in-Some.ensures
 
-pub returns-in_ok-text : goal.returns-in_ok-text
+pub returns-in_ok-text-in-Some : goal.returns-in_ok-text-in-Some
 unfolding text_in
-returns-in_ok-text c = fit_field (fields_of c.args.block.now) 21 c.number.result c.number.ensures read_text _ _ c.in-Some.ensures.found c.in_ok-text.ensures
+returns-in_ok-text-in-Some c = fit_field (fields_of c.args.block.now) 21 c.number.result c.number.ensures read_text _ _ c.in-Some.ensures.found c.in_ok-text-in-Some.ensures
 
 pub returns-in-None : goal.returns-in-None
 unfolding text_in

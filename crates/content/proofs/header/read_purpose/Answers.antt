@@ -6,34 +6,34 @@ use Rattle.content.specs.Views.{purpose_view}
 use Rattle.content.specs.Decoding.{purpose_in}
 use Rattle.content.proofs.header.read_purpose.Goals as goal
 
-pub returns-in_err-debtor_agent : goal.returns-in_err-debtor_agent
+pub returns-in_err-debtor_agent-in-Request : goal.returns-in_err-debtor_agent-in-Request
 unfolding purpose_in
-returns-in_err-debtor_agent c = ap (option_map purpose_view) c.from_residual.ensures ∙ ap (option_map request) c.in_err-debtor_agent.ensures ∙ sym (ap (λ k. purpose_in k (fields_of c.args.block.now)) c.in-Request.is)
+returns-in_err-debtor_agent-in-Request c = ap (option_map purpose_view) c.from_residual.ensures ∙ ap (option_map request) c.in_err-debtor_agent-in-Request.ensures ∙ sym (ap (λ k. purpose_in k (fields_of c.args.block.now)) c.in-Request.is)
 
-pub returns-in_ok-debtor_agent : goal.returns-in_ok-debtor_agent
+pub returns-in_ok-debtor_agent-in-Request : goal.returns-in_ok-debtor_agent-in-Request
 unfolding purpose_in
-returns-in_ok-debtor_agent c = ap (option_map request) c.in_ok-debtor_agent.ensures ∙ sym (ap (λ k. purpose_in k (fields_of c.args.block.now)) c.in-Request.is)
+returns-in_ok-debtor_agent-in-Request c = ap (option_map request) c.in_ok-debtor_agent-in-Request.ensures ∙ sym (ap (λ k. purpose_in k (fields_of c.args.block.now)) c.in-Request.is)
 
-pub returns-in_err-original : goal.returns-in_err-original
+pub returns-in_err-original-in-Recall : goal.returns-in_err-original-in-Recall
 unfolding purpose_in
-returns-in_err-original c = ap (option_map purpose_view) c.from_residual-in_err-original.ensures ∙ ap (option_map recall) c.in_err-original.ensures ∙ sym (ap (λ k. purpose_in k (fields_of c.args.block.now)) c.in-Recall.is)
+returns-in_err-original-in-Recall c = ap (option_map purpose_view) c.from_residual-in_err-original-in-Recall.ensures ∙ ap (option_map recall) c.in_err-original-in-Recall.ensures ∙ sym (ap (λ k. purpose_in k (fields_of c.args.block.now)) c.in-Recall.is)
 
-pub returns-in_ok-original : goal.returns-in_ok-original
+pub returns-in_ok-original-in-Recall : goal.returns-in_ok-original-in-Recall
 unfolding purpose_in
-returns-in_ok-original c = ap (option_map recall) c.in_ok-original.ensures ∙ sym (ap (λ k. purpose_in k (fields_of c.args.block.now)) c.in-Recall.is)
+returns-in_ok-original-in-Recall c = ap (option_map recall) c.in_ok-original-in-Recall.ensures ∙ sym (ap (λ k. purpose_in k (fields_of c.args.block.now)) c.in-Recall.is)
 
-pub returns-in_err-original-2 : goal.returns-in_err-original-2
+pub returns-in_err-original-in-Report : goal.returns-in_err-original-in-Report
 unfolding purpose_in
-returns-in_err-original-2 c = ap (option_map purpose_view) c.from_residual-in_err-original-2.ensures ∙ ap (option_map report) c.in_err-original-2.ensures ∙ sym (ap (λ k. purpose_in k (fields_of c.args.block.now)) c.in-Report.is)
+returns-in_err-original-in-Report c = ap (option_map purpose_view) c.from_residual-in_err-original-in-Report.ensures ∙ ap (option_map report) c.in_err-original-in-Report.ensures ∙ sym (ap (λ k. purpose_in k (fields_of c.args.block.now)) c.in-Report.is)
 
-pub returns-in_ok-original-2 : goal.returns-in_ok-original-2
+pub returns-in_ok-original-in-Report : goal.returns-in_ok-original-in-Report
 unfolding purpose_in
-returns-in_ok-original-2 c = ap (option_map report) c.in_ok-original-2.ensures ∙ sym (ap (λ k. purpose_in k (fields_of c.args.block.now)) c.in-Report.is)
+returns-in_ok-original-in-Report c = ap (option_map report) c.in_ok-original-in-Report.ensures ∙ sym (ap (λ k. purpose_in k (fields_of c.args.block.now)) c.in-Report.is)
 
-pub returns-in_err-original-3 : goal.returns-in_err-original-3
+pub returns-in_err-original-in-Reply : goal.returns-in_err-original-in-Reply
 unfolding purpose_in
-returns-in_err-original-3 c = ap (option_map purpose_view) c.from_residual-in_err-original-3.ensures ∙ ap (option_map reply) c.in_err-original-3.ensures ∙ sym (ap (λ k. purpose_in k (fields_of c.args.block.now)) c.in-Reply.is)
+returns-in_err-original-in-Reply c = ap (option_map purpose_view) c.from_residual-in_err-original-in-Reply.ensures ∙ ap (option_map reply) c.in_err-original-in-Reply.ensures ∙ sym (ap (λ k. purpose_in k (fields_of c.args.block.now)) c.in-Reply.is)
 
-pub returns-in_ok-original-3 : goal.returns-in_ok-original-3
+pub returns-in_ok-original-in-Reply : goal.returns-in_ok-original-in-Reply
 unfolding purpose_in
-returns-in_ok-original-3 c = ap (option_map reply) c.in_ok-original-3.ensures ∙ sym (ap (λ k. purpose_in k (fields_of c.args.block.now)) c.in-Reply.is)
+returns-in_ok-original-in-Reply c = ap (option_map reply) c.in_ok-original-in-Reply.ensures ∙ sym (ap (λ k. purpose_in k (fields_of c.args.block.now)) c.in-Reply.is)

@@ -9,32 +9,32 @@ use Rattle.content.specs.Decoding.{detail_in}
 use Rattle.block.proofs.Chaining.{given-some, given-none}
 use Rattle.content.proofs.transaction.read_detail.Goals as goal
 
-pub returns-in_err-amount : goal.returns-in_err-amount
+pub returns-in_err-amount-in-Request : goal.returns-in_err-amount-in-Request
 unfolding detail_in
-returns-in_err-amount c = ap (option_map detail_view) c.from_residual.ensures ∙ sym (given-none _ _ c.in_err-amount.ensures) ∙ sym (ap (λ k. detail_in k (fields_of c.args.block.now)) c.in-Request.is)
+returns-in_err-amount-in-Request c = ap (option_map detail_view) c.from_residual.ensures ∙ sym (given-none _ _ c.in_err-amount-in-Request.ensures) ∙ sym (ap (λ k. detail_in k (fields_of c.args.block.now)) c.in-Request.is)
 
-pub returns-in_err-creditor_agent : goal.returns-in_err-creditor_agent
+pub returns-in_err-creditor_agent-in-Request : goal.returns-in_err-creditor_agent-in-Request
 unfolding detail_in
-returns-in_err-creditor_agent c =
-    ap (option_map detail_view) c.from_residual-in_err-creditor_agent.ensures
-    ∙ ap (option_map (requested c.in_ok-amount.amount.kopecks)) c.in_err-creditor_agent.ensures
-    ∙ sym (given-some _ _ _ c.in_ok-amount.ensures)
+returns-in_err-creditor_agent-in-Request c =
+    ap (option_map detail_view) c.from_residual-in_err-creditor_agent-in-Request.ensures
+    ∙ ap (option_map (requested c.in_ok-amount-in-Request.amount.kopecks)) c.in_err-creditor_agent-in-Request.ensures
+    ∙ sym (given-some _ _ _ c.in_ok-amount-in-Request.ensures)
     ∙ sym (ap (λ k. detail_in k (fields_of c.args.block.now)) c.in-Request.is)
 
-pub returns-in_ok-creditor_agent : goal.returns-in_ok-creditor_agent
+pub returns-in_ok-creditor_agent-in-Request : goal.returns-in_ok-creditor_agent-in-Request
 unfolding detail_in
-returns-in_ok-creditor_agent c =
-    ap (option_map (requested c.in_ok-amount.amount.kopecks)) c.in_ok-creditor_agent.ensures
-    ∙ sym (given-some _ _ _ c.in_ok-amount.ensures)
+returns-in_ok-creditor_agent-in-Request c =
+    ap (option_map (requested c.in_ok-amount-in-Request.amount.kopecks)) c.in_ok-creditor_agent-in-Request.ensures
+    ∙ sym (given-some _ _ _ c.in_ok-amount-in-Request.ensures)
     ∙ sym (ap (λ k. detail_in k (fields_of c.args.block.now)) c.in-Request.is)
 
-pub returns-in_err-amount-2 : goal.returns-in_err-amount-2
+pub returns-in_err-amount-in-Recall : goal.returns-in_err-amount-in-Recall
 unfolding detail_in
-returns-in_err-amount-2 c = ap (option_map detail_view) c.from_residual-in_err-amount-2.ensures ∙ ap (option_map recalled) c.in_err-amount-2.ensures ∙ sym (ap (λ k. detail_in k (fields_of c.args.block.now)) c.in-Recall.is)
+returns-in_err-amount-in-Recall c = ap (option_map detail_view) c.from_residual-in_err-amount-in-Recall.ensures ∙ ap (option_map recalled) c.in_err-amount-in-Recall.ensures ∙ sym (ap (λ k. detail_in k (fields_of c.args.block.now)) c.in-Recall.is)
 
-pub returns-in_ok-amount-2 : goal.returns-in_ok-amount-2
+pub returns-in_ok-amount-in-Recall : goal.returns-in_ok-amount-in-Recall
 unfolding detail_in
-returns-in_ok-amount-2 c = ap (option_map recalled) c.in_ok-amount-2.ensures ∙ sym (ap (λ k. detail_in k (fields_of c.args.block.now)) c.in-Recall.is)
+returns-in_ok-amount-in-Recall c = ap (option_map recalled) c.in_ok-amount-in-Recall.ensures ∙ sym (ap (λ k. detail_in k (fields_of c.args.block.now)) c.in-Recall.is)
 
 pub returns-in-Report : goal.returns-in-Report
 unfolding detail_in
