@@ -12,9 +12,9 @@ ghost use Rattle.image.specs.Image.{is_value, named};
 
 use block::BLOCK;
 use block::reader::value;
-use octets::same_bytes;
 use cases::case::{Case, CaseName};
 use coding::{case_block, read_case};
+use octets::same_bytes;
 use tags::listing::Tag;
 
 /// Whether the field of a tag is there and has this value.

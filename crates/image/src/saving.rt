@@ -10,9 +10,9 @@ use books::refusal::BookRefusal;
 
 /// Writes the image of a book into lent bytes, which have to be as many blocks as the book has room for.
 pub fn save<B: CaseBook>(book: &B, bytes: &mut [u8]) -> Result<(), BookRefusal>
-    requires { sound book.now }
-    ensures answer { result ≡ save_answer (room book.now) (length bytes.old) }
-    ensures bytes { bytes.new ≡ (if is_ok result then image (room book.now) (cases book.now) else bytes.old) }
+    requires { B.sound book.now }
+    ensures answer { result ≡ save_answer (B.room book.now) (length bytes.old) }
+    ensures bytes { bytes.new ≡ (if is_ok result then image (B.room book.now) (B.cases book.now) else bytes.old) }
 {
     if bytes.len() % BLOCK != 0 || bytes.len() / BLOCK != book.capacity() {
         return Err(BookRefusal::NoBook);
