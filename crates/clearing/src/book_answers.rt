@@ -14,7 +14,7 @@ pub(crate) fn show_book<B: CaseBook>(
     style: Style,
     book: &B,
 ) -> Result<(), OutOfMemory>
-    requires { sound book.now }
+    requires { B.sound book.now }
 {
     for at in 0..book.count() {
         if let Some(case) = book.case_at(at) {
@@ -91,7 +91,7 @@ pub(crate) fn show_totals<B: CaseBook>(
     style: Style,
     book: &B,
 ) -> Result<(), OutOfMemory>
-    requires { sound book.now }
+    requires { B.sound book.now }
 {
     let Totals {
         open,

@@ -105,8 +105,8 @@ fn answer<B: CaseBook>(
     style: Style,
     out: &mut String,
 ) -> Result<(), OutOfMemory>
-    requires { sound book.old }
-    ensures { sound book.new }
+    requires { B.sound book.old }
+    ensures { B.sound book.new }
 {
     match question {
         Question::Open(case) => {
@@ -142,8 +142,8 @@ fn answer<B: CaseBook>(
 
 /// The image of a book.
 fn image_of<B: CaseBook>(heap: Global, book: &B) -> Result<Vec<u8>, AllocError>
-    requires { sound book.now }
-    ensures { IfOk result (λ bytes. bytes.items ≡ image (room book.now) (cases book.now)) }
+    requires { B.sound book.now }
+    ensures { IfOk result (λ bytes. bytes.items ≡ image (B.room book.now) (B.cases book.now)) }
 {
     let mut bytes = vec![in heap; 0; BLOCK * book.capacity()]?;
     let _ = save(book, bytes.as_mut_slice());

@@ -153,8 +153,8 @@ fn carry_out<D: Desk>(
     line: &[u8],
     out: &mut String,
 ) -> Result<Outcome, ScriptError>
-    requires { ready desk.old }
-    ensures { ready desk.new }
+    requires { D.ready desk.old }
+    ensures { D.ready desk.new }
 {
     let words = split(session.heap, line)?;
     let Some((first, rest)) = words.as_slice().split_first() else {
@@ -186,7 +186,7 @@ fn run_lines<D: Desk>(
     lines: &mut Lines,
     desk: &mut D,
 ) -> anyhow::Result<Option<Memory>>
-    requires { ready desk.old }
+    requires { D.ready desk.old }
 {
     while let Some(line) = lines.next() {
         let mut out = String::new(rt.alloc());
