@@ -4,12 +4,12 @@ use block::{BLOCK, BODY};
 use books::book::CaseBook;
 use books::refusal::BookRefusal;
 use books::totals::totals_of;
-use octets::same_bytes;
 use cases::case::{Case, CaseName, Original, OriginalKind, State, Subject};
 use cases::state::Status;
 use coding::{case_block, exact_case, read_case};
 use image::book::ImageBook;
 use image::saving::save;
+use octets::same_bytes;
 use rows::RowsBook;
 use std::process::Abort;
 use std::test::*;
@@ -259,8 +259,8 @@ fn refused(answer: Result<(), BookRefusal>) -> u8 {
 
 /// Makes a call, and answers with the number of its refusal, or 0.
 fn make<B: CaseBook>(book: &mut B, call: Call) -> Result<u8, Fail>
-    requires { sound book.old }
-    ensures { sound book.new }
+    requires { B.sound book.old }
+    ensures { B.sound book.new }
 {
     let closing = identifier(CLOSING)?;
     match call {
@@ -278,8 +278,13 @@ fn make<B: CaseBook>(book: &mut B, call: Call) -> Result<u8, Fail>
 }
 
 /// Checks how many cases of a book are in each state, and how many there are in all.
-fn has_totals<B: CaseBook>(rt: &impl Abort, book: &B, expected: [usize; 5]) -> Result<(), Fail>
-    requires { sound book.now }
+fn has_totals<B: CaseBook>(
+    rt: &impl Abort,
+    book: &B,
+    expected: [usize; 5],
+    row: usize,
+) -> Result<(), Fail>
+    requires { B.sound book.now }
 {
     let totals = totals_of(book);
     assert_eq!(rt;
@@ -290,25 +295,26 @@ fn has_totals<B: CaseBook>(rt: &impl Abort, book: &B, expected: [usize; 5]) -> R
             totals.declined,
             totals.withdrawn,
         ],
-        expected
+        expected,
+        "step {row}"
     );
     let mut all: usize = 0;
     for total in expected {
         all = all.saturating_add(total);
     }
-    assert_eq!(rt; book.count(), all);
+    assert_eq!(rt; book.count(), all, "step {row}");
     Ok(())
 }
 
 /// Makes the calls of the table.
 fn exercise<B: CaseBook>(rt: &impl Abort, book: &mut B) -> Result<(), Fail>
-    requires { sound book.old }
-    ensures { sound book.new }
+    requires { B.sound book.old }
+    ensures { B.sound book.new }
 {
     for (row, step) in STEPS.iter().enumerate() {
         let Step(call, answer, totals) = *step;
         assert_eq!(rt; make(book, call)?, answer, "step {row}");
-        has_totals(rt, book, totals).note(format_args!("step {row}"))?;
+        has_totals(rt, book, totals, row)?;
     }
     Ok(())
 }
@@ -341,7 +347,7 @@ fn is_case(rt: &impl Abort, found: Option<Case>, expected: Case) -> Result<(), F
 
 /// Checks what a book shows after the calls of the table: case 1, declined, then case 2, agreed, and no other.
 fn shows<B: CaseBook>(rt: &impl Abort, book: &B) -> Result<(), Fail>
-    requires { sound book.now }
+    requires { B.sound book.now }
 {
     let closing = identifier(CLOSING)?;
     let first = case(1, State::Declined(closing))?;
@@ -553,7 +559,7 @@ const OTHER_LENGTHS: [usize; 6] = [0, 511, 512, 1023, 1025, 1536];
 
 /// Checks that a book of two cases is not saved into bytes of another length, which are left as they are.
 fn is_not_saved<B: CaseBook>(rt: &impl Abort, book: &B) -> Result<(), Fail>
-    requires { sound book.now }
+    requires { B.sound book.now }
 {
     for len in OTHER_LENGTHS {
         let mut bytes = [7; 3 * BLOCK];

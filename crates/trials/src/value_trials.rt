@@ -1,6 +1,7 @@
 //! Values, run at the edges of what is fit.
-use octets::same_bytes;
 use dates::date::Date;
+use octets::same_bytes;
+use std::process::Abort;
 use std::test::*;
 use values::amount::Amount;
 use values::identifier::Identifier;
@@ -25,13 +26,13 @@ impl Case {
     }
 
     /// Checks what came of reading the bytes: where they are fit they are given back, else there is nothing.
-    fn expect(&self, back: Option<&[u8]>) -> Result<(), Fail> {
+    fn expect(&self, rt: &impl Abort, back: Option<&[u8]>) -> Result<(), Fail> {
         let agrees = match (*self, back) {
             (Case::Fit(bytes), Some(back)) => same_bytes(bytes, back),
             (Case::Unfit(_), None) => true,
             _ => false,
         };
-        assert!(agrees, "{:?}", self.bytes());
+        assert!(rt; agrees, "{:?}", self.bytes());
         Ok(())
     }
 }
@@ -61,11 +62,11 @@ const DATES: [Case; 21] = [
 ];
 
 #[test]
-fn dates() -> Result<(), Fail> {
+fn dates(rt: HostRuntime) -> Result<(), Fail> {
     for case in DATES.iter() {
         match Date::read(case.bytes()) {
-            Some(date) => case.expect(Some(&date.digits()))?,
-            None => case.expect(None)?,
+            Some(date) => case.expect(&rt, Some(&date.digits()))?,
+            None => case.expect(&rt, None)?,
         }
     }
     Ok(())
@@ -267,27 +268,27 @@ const REFERENCES: [Case; 7] = [
 ];
 
 #[test]
-fn codes() -> Result<(), Fail> {
+fn codes(rt: HostRuntime) -> Result<(), Fail> {
     for case in MEMBER_CODES.iter() {
         match MemberCode::read(case.bytes()) {
-            Some(code) => case.expect(Some(&code.bytes))?,
-            None => case.expect(None)?,
+            Some(code) => case.expect(&rt, Some(&code.bytes))?,
+            None => case.expect(&rt, None)?,
         }
     }
     for case in SHORT_CODES.iter() {
         match ReasonCode::read(case.bytes()) {
-            Some(code) => case.expect(Some(&code.bytes))?,
-            None => case.expect(None)?,
+            Some(code) => case.expect(&rt, Some(&code.bytes))?,
+            None => case.expect(&rt, None)?,
         }
         match StatusCode::read(case.bytes()) {
-            Some(code) => case.expect(Some(&code.bytes))?,
-            None => case.expect(None)?,
+            Some(code) => case.expect(&rt, Some(&code.bytes))?,
+            None => case.expect(&rt, None)?,
         }
     }
     for case in REFERENCES.iter() {
         match Uetr::read(case.bytes()) {
-            Some(reference) => case.expect(Some(&reference.bytes))?,
-            None => case.expect(None)?,
+            Some(reference) => case.expect(&rt, Some(&reference.bytes))?,
+            None => case.expect(&rt, None)?,
         }
     }
     Ok(())
@@ -317,11 +318,11 @@ fn identifiers(rt: HostRuntime) -> Result<(), Fail> {
     for case in IDENTIFIERS.iter() {
         match Identifier::read(case.bytes()) {
             Some(id) => {
-                case.expect(Some(&id.bytes))?;
+                case.expect(&rt, Some(&id.bytes))?;
                 assert!(rt; id.begins_with(&sender) && !id.begins_with(&other));
                 assert!(rt; id.dated(&day) && !id.dated(&next));
             }
-            None => case.expect(None)?,
+            None => case.expect(&rt, None)?,
         }
     }
     Ok(())
