@@ -99,7 +99,7 @@ impl fmt::Display for LineFault {
     fn fmt<W: fmt::Write>(&self, f: &mut fmt::Formatter<W>) -> fmt::Result {
         match *self {
             LineFault::UnknownCommand => f.write_str(
-                "unknown command: expected block, write, read, spoil, clear, new, mount, save, open-case, change-case, find-case, book or totals",
+                "unknown command: expected block, write, read, spoil or clear",
             ),
             LineFault::UnclosedQuote => f.write_str(
                 "a quoted value does not end: expected a closing \"",

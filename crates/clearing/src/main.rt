@@ -80,7 +80,9 @@ fn answer_making(
     word: &'static str,
     memory: Result<Memory, BookRefusal>,
     out: &mut String,
-) -> Result<Outcome, ScriptError> {
+) -> Result<Outcome, ScriptError>
+    ensures { NothingDone result out.old out.new }
+{
     match memory {
         Ok(memory) => {
             session
@@ -101,7 +103,9 @@ fn answer_making(
 }
 
 /// Makes an empty book, where its memory is accepted.
-fn make(session: &Session, book: NewBook, out: &mut String) -> Result<Outcome, ScriptError> {
+fn make(session: &Session, book: NewBook, out: &mut String) -> Result<Outcome, ScriptError>
+    ensures { NothingDone result out.old out.new }
+{
     match book {
         NewBook::Rows(count) => answer_making(session, "new", new_rows(session.heap, count)?, out),
         NewBook::Image(count) => answer_making(
@@ -119,7 +123,9 @@ fn mount(
     session: &Session,
     path: String,
     out: &mut String,
-) -> Result<Outcome, ScriptError> {
+) -> Result<Outcome, ScriptError>
+    ensures { NothingDone result out.old out.new }
+{
     match fs::read(rt, path.as_str()) {
         Ok(bytes) => answer_making(session, "mount", mounted(bytes), out),
         Err(_) => Err(ScriptError::Line(LineFault::CannotRead)),
@@ -133,7 +139,9 @@ fn save_image(
     path: String,
     bytes: Vec<u8>,
     out: &mut String,
-) -> Result<Outcome, ScriptError> {
+) -> Result<Outcome, ScriptError>
+    ensures { NothingDone result out.old out.new }
+{
     match fs::write(rt, path.as_str(), bytes.as_slice()) {
         Ok(()) => {
             session
@@ -145,7 +153,7 @@ fn save_image(
     }
 }
 
-/// Carries out one line, and adds what it answers to `out`.
+/// Carries out one line, and adds what it answers to `out`. Of a line that makes no sense nothing is done.
 fn carry_out<D: Desk>(
     rt: &HostRuntime,
     session: &mut Session,
@@ -154,7 +162,9 @@ fn carry_out<D: Desk>(
     out: &mut String,
 ) -> Result<Outcome, ScriptError>
     requires { D.ready desk.old }
-    ensures { D.ready desk.new }
+    ensures ready { D.ready desk.new }
+    ensures session { NothingDone result session.old session.new }
+    ensures out { NothingDone result out.old out.new }
 {
     let words = split(session.heap, line)?;
     let Some((first, rest)) = words.as_slice().split_first() else {

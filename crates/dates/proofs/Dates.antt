@@ -2,7 +2,7 @@
 use Rattle.std.proofs.Common.{◌≡◌, ℕ, ◌-◌, ◌<◌, ◌≤◌, true, false, ◌⊎◌, Some, None, refl, ap, ◌∙◌, inl, inr, ⊎_elim, arith}
 use Rattle.std.proofs.lemmas.Bool.{cases_Bool, lt-ltb, le-ltb}
 use Rattle.std.proofs.lemmas.Bool.Decides.{nat_tests}
-use Rattle.dates.specs.Dates.{DateValue, date, month_length, real_date, earlier, OneUnlessEarlier, day_before, LastBefore}
+use Rattle.dates.specs.Dates.{DateValue, date, month_length, real_date, earlier, OneUnlessEarlier, day_before, GreatestBefore}
 
 -- what it says of a date that it is real
 pub record Real (d : DateValue) : Type 0 where
@@ -83,9 +83,9 @@ pub one_unless_earlier : (a b : DateValue) → OneUnlessEarlier a b
 unfolding earlier
 one_unless_earlier a b e f = equal a b (grind (arith, nat_tests)) (grind (arith, nat_tests)) (grind (arith, nat_tests))
 
--- the day before is the last of the real dates before d
+-- the day before is the greatest of the real dates before d
 module _ (d : DateValue) (real : Real d) where
-  pub within_month : 1 < d.day → LastBefore d (Some (date d.year d.month (d.day - 1)))
+  pub within_month : 1 < d.day → GreatestBefore d (Some (date d.year d.month (d.day - 1)))
   within_month h =
       let b = date d.year d.month (d.day - 1) in (
         real_from_parts b (record {
@@ -100,7 +100,7 @@ module _ (d : DateValue) (real : Real d) where
         λ e r s. let p = earlier_parts e d s in up_to e b (grind arith),
       )
 
-  pub month_back : d.day ≤ 1 → 1 < d.month → LastBefore d (Some (date d.year (d.month - 1) (month_length d.year (d.month - 1))))
+  pub month_back : d.day ≤ 1 → 1 < d.month → GreatestBefore d (Some (date d.year (d.month - 1) (month_length d.year (d.month - 1))))
   month_back h k =
       let b = date d.year (d.month - 1) (month_length d.year (d.month - 1)) in (
         real_from_parts b (record {
@@ -115,7 +115,7 @@ module _ (d : DateValue) (real : Real d) where
         λ e r s. let p = earlier_parts e d s in let q = real_parts e r in up_to e b (grind arith),
       )
 
-  pub year_back : d.day ≤ 1 → d.month ≤ 1 → 2000 < d.year → LastBefore d (Some (date (d.year - 1) 12 31))
+  pub year_back : d.day ≤ 1 → d.month ≤ 1 → 2000 < d.year → GreatestBefore d (Some (date (d.year - 1) 12 31))
   year_back h k l =
       let b = date (d.year - 1) 12 31 in (
         real_from_parts b (record {
@@ -130,7 +130,7 @@ module _ (d : DateValue) (real : Real d) where
         λ e r s. let p = earlier_parts e d s in let q = real_parts e r in let m = month_length_most e.year e.month in up_to e b (grind arith),
       )
 
-  pub none_before : d.day ≤ 1 → d.month ≤ 1 → d.year ≤ 2000 → LastBefore d None
+  pub none_before : d.day ≤ 1 → d.month ≤ 1 → d.year ≤ 2000 → GreatestBefore d None
   none_before h k l e r = let q = real_parts e r in not_earlier e d (λ p. grind arith)
 
 -- which day the day before is, case by case

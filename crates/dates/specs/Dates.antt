@@ -76,9 +76,9 @@ day_before d =
     (cond (nat_lt 1 d.month) (Some (date d.year (d.month - 1) (month_length d.year (d.month - 1))))
     (cond (nat_lt 2000 d.year) (Some (date (d.year - 1) 12 31)) None))
 
--- the last of the real dates before d; or there is no real date before d
-abbrev pub LastBefore : DateValue → Option DateValue → Type 0
-LastBefore d None = (e : DateValue) → real_date e ≡ true → earlier e d ≡ false
-LastBefore d (Some b) =
+-- the greatest of the real dates before d; or there is no real date before d
+abbrev pub GreatestBefore : DateValue → Option DateValue → Type 0
+GreatestBefore d None = (e : DateValue) → real_date e ≡ true → earlier e d ≡ false
+GreatestBefore d (Some b) =
     (real_date b ≡ true) × (earlier b d ≡ true)
     × ((e : DateValue) → real_date e ≡ true → earlier e d ≡ true → (e ≡ b) ⊎ (earlier e b ≡ true))

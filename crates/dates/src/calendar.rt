@@ -2,7 +2,7 @@
 ghost use Rattle.std.specs.Prelude.{◌≡◌, ◌+◌, ◌-◌, ◌*◌, true, IfSome, Some};
 ghost use Rattle.std.specs.Option.{option_map};
 ghost use Rattle.octets.specs.Bytes.{is_digit};
-ghost use Rattle.dates.specs.Dates.{date, leap_year, month_length, real_only, read_date, digit, date_digits, earlier, OneUnlessEarlier, day_before, LastBefore};
+ghost use Rattle.dates.specs.Dates.{date, leap_year, month_length, real_only, read_date, digit, date_digits, earlier, OneUnlessEarlier, day_before, GreatestBefore};
 ghost use Rattle.dates.specs.Views.{view};
 
 use crate::date::Date;
@@ -110,10 +110,10 @@ impl Date {
         }
     }
 
-    /// The day before, which only 1 January 2000 does not have: the last of the dates before it.
+    /// The day before, which only 1 January 2000 does not have: the greatest of the dates before it.
     pub fn day_before(&self) -> Option<Date>
         ensures value { option_map view result ≡ day_before (view self.now) }
-        ensures last { LastBefore (view self.now) (option_map view result) }
+        ensures greatest { GreatestBefore (view self.now) (option_map view result) }
     {
         if self.day > 1 {
             Some(Date {

@@ -1,5 +1,5 @@
 use Rattle.std.proofs.Common.{◌-◌, Some, sym, ap, ◌∙◌, subst}
-use Rattle.dates.specs.Dates.{date, LastBefore}
+use Rattle.dates.specs.Dates.{date, GreatestBefore}
 use Rattle.dates.specs.Views.{view}
 use Rattle.dates.proofs.Dates.{real_parts, within_month, month_back, year_back, none_before, day_before_within, day_before_month, day_before_year, day_before_none}
 use Rattle.dates.proofs.date.Date.day_before.Goals as goal
@@ -25,7 +25,7 @@ returns-then-self-gt1 c =
     let d = view c.args.self.now in
     record {
       value = sym (day_before_within d c.if-self-gt1.true);
-      last = within_month d (real_parts d c.args.self.now.real) c.if-self-gt1.true;
+      greatest = within_month d (real_parts d c.args.self.now.real) c.if-self-gt1.true;
     }
 
 pub returns-then-self-gt1-2 : goal.returns-then-self-gt1-2
@@ -34,7 +34,7 @@ returns-then-self-gt1-2 c =
     let e = ap (λ n. Some (date d.year (d.month - 1) n)) c.month_length.ensures in
     record {
       value = e ∙ sym (day_before_month d c.if-self-gt1.false c.if-self-gt1-2.true);
-      last = subst (LastBefore d) (sym e) (month_back d (real_parts d c.args.self.now.real) c.if-self-gt1.false c.if-self-gt1-2.true);
+      greatest = subst (GreatestBefore d) (sym e) (month_back d (real_parts d c.args.self.now.real) c.if-self-gt1.false c.if-self-gt1-2.true);
     }
 
 pub returns-then-self-gt-FIRST_YEAR : goal.returns-then-self-gt-FIRST_YEAR
@@ -42,7 +42,7 @@ returns-then-self-gt-FIRST_YEAR c =
     let d = view c.args.self.now in
     record {
       value = sym (day_before_year d c.if-self-gt1.false c.if-self-gt1-2.false c.if-self-gt-FIRST_YEAR.true);
-      last = year_back d (real_parts d c.args.self.now.real) c.if-self-gt1.false c.if-self-gt1-2.false c.if-self-gt-FIRST_YEAR.true;
+      greatest = year_back d (real_parts d c.args.self.now.real) c.if-self-gt1.false c.if-self-gt1-2.false c.if-self-gt-FIRST_YEAR.true;
     }
 
 pub returns-else-self-gt-FIRST_YEAR : goal.returns-else-self-gt-FIRST_YEAR
@@ -50,5 +50,5 @@ returns-else-self-gt-FIRST_YEAR c =
     let d = view c.args.self.now in
     record {
       value = sym (day_before_none d c.if-self-gt1.false c.if-self-gt1-2.false c.if-self-gt-FIRST_YEAR.false);
-      last = none_before d (real_parts d c.args.self.now.real) c.if-self-gt1.false c.if-self-gt1-2.false c.if-self-gt-FIRST_YEAR.false;
+      greatest = none_before d (real_parts d c.args.self.now.real) c.if-self-gt1.false c.if-self-gt1-2.false c.if-self-gt-FIRST_YEAR.false;
     }
