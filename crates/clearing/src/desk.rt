@@ -1,6 +1,7 @@
 //! What a script's questions are asked of: a book of any form, or none.
 ghost use Rattle.std.specs.Prelude.{◌≡◌, IfOk};
 ghost use Rattle.image.specs.Image.{image};
+ghost use Rattle.clearing.specs.Lines.{NothingDone};
 
 use crate::answers::Style;
 use crate::book_answers::{show_book, show_totals};
@@ -17,10 +18,12 @@ use std::fmt::Write;
 pub(crate) trait Desk {
     ghost ready: { Self → Type 0 };
 
-    /// Answers a question.
+    /// Answers a question. Where there is nothing to ask, nothing is done.
     fn ask(&mut self, question: Question, style: Style, out: &mut String) -> Result<(), ScriptError>
         requires { ready self.old }
-        ensures { ready self.new };
+        ensures kept { ready self.new }
+        ensures desk { NothingDone result self.old self.new }
+        ensures out { NothingDone result out.old out.new };
 
     /// The image of the book.
     fn image(&self, heap: Global) -> Result<Vec<u8>, ScriptError>

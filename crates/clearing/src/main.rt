@@ -19,6 +19,8 @@ mod session;
 mod values;
 mod words;
 
+ghost use Rattle.clearing.specs.Lines.{NothingDone};
+
 use crate::answers::Style;
 use crate::book_words::{BookWord, NewBook, file, new_book, read_question};
 use crate::desk::{Desk, Held, NoBook, refusal_meaning};
@@ -162,8 +164,9 @@ fn carry_out<D: Desk>(
     out: &mut String,
 ) -> Result<Outcome, ScriptError>
     requires { D.ready desk.old }
-    ensures ready { D.ready desk.new }
+    ensures kept { D.ready desk.new }
     ensures session { NothingDone result session.old session.new }
+    ensures desk { NothingDone result desk.old desk.new }
     ensures out { NothingDone result out.old out.new }
 {
     let words = split(session.heap, line)?;
