@@ -1,10 +1,10 @@
 -- Fields and the bytes that they are written as: one field more, how many bytes they take, and how they are found again.
-use Rattle.std.proofs.Common.{◌≡◌, ℕ, zero, suc, ◌+◌, ◌-◌, ◌<◌, ◌≤◌, Bool, true, false, cond, ◌&&◌, eqb, leb, List, [], ◌∷◌, ◌++◌, length, get_or, take, drop, replicate, Some, None, Option, sym, refl, ap, ◌∙◌, ⊎_elim, not-suc-le-zero, arith, lit<}
+use Rattle.std.proofs.Common.{◌≡◌, ℕ, zero, suc, ◌+◌, ◌<◌, ◌≤◌, Bool, true, false, ◌&&◌, eqb, leb, List, [], ◌∷◌, ◌++◌, length, get_or, replicate, Some, None, Option, sym, refl, ap, ◌∙◌, ⊎_elim, not-suc-le-zero, arith, lit<}
 use Rattle.std.proofs.lemmas.List.{append_assoc, append-nil, length-append, take_at, drop_at, get_or_past}
 use Rattle.std.proofs.lemmas.Bool.{ne_eqb, leb-true, and_parts, cases_lt, false≢true}
 use Rattle.tags.specs.declared.listing.Rule.{Rule}
 use Rattle.tags.specs.Tags.{rules, rule_of, admitted, listed}
-use Rattle.block.specs.Fields.{FieldValue, Legal, encoded, fields_of, last_tag, parsed}
+use Rattle.block.specs.Fields.{FieldValue, Legal, encoded, last_tag, parsed}
 
 -- the bytes of one field
 abbrev pub field_bytes : ℕ → List ℕ → List ℕ

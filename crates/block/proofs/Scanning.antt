@@ -1,11 +1,11 @@
 -- The steps of the two readers, at bytes as the code sees them.
-use Rattle.std.proofs.Common.{◌≡◌, ℕ, zero, suc, ◌+◌, ◌-◌, ◌<◌, ◌≤◌, min, true, false, cond, ◌&&◌, eqb, ltb, leb, List, [], ◌∷◌, length, get_or, take, drop, Some, None, Ok, Err, sym, refl, ap, ◌∙◌, ⊎_elim, not-suc-le-zero, arith}
+use Rattle.std.proofs.Common.{◌≡◌, ℕ, zero, suc, ◌+◌, ◌-◌, ◌<◌, ◌≤◌, min, true, false, cond, ◌&&◌, eqb, ltb, leb, List, [], ◌∷◌, length, get_or, take, drop, Some, Ok, Err, sym, refl, ap, ◌∙◌, ⊎_elim, not-suc-le-zero, arith}
 use Rattle.std.proofs.lemmas.List.{length-drop, at_drop_more, at_drop_all, take_rest, take_all, drop_all}
 use Rattle.std.proofs.lemmas.Bool.{ne_eqb, eq-eqb, cases_Bool, cases_lt, lt-ltb, le-ltb, le-leb, lt-leb, and_from, and_left, and_right}
 use Rattle.tags.specs.declared.faults.BlockFault.{BlockFault}
 use Rattle.tags.specs.declared.faults.BlockFault.TheVariants.{BrokenLayout}
 use Rattle.tags.specs.Tags.{listed}
-use Rattle.block.specs.Fields.{FieldValue, fields_of, parsed, value_of}
+use Rattle.block.specs.Fields.{fields_of, parsed, value_of}
 use Rattle.block.specs.Reading.{Reading, led, blank, may_stand, scanned, fields_from, judged}
 
 -- more fuel than there are bytes changes nothing

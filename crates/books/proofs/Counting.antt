@@ -1,9 +1,8 @@
 -- Cases counted by their states.
-use Rattle.std.proofs.Common.{◌≡◌, ℕ, ◌+◌, ◌<◌, ◌≤◌, Bool, true, false, cond, eqb, List, [], ◌∷◌, ◌++◌, length, take, refl, ap, ◌∙◌, add_assoc, arith}
+use Rattle.std.proofs.Common.{◌≡◌, ℕ, ◌+◌, ◌<◌, ◌≤◌, Bool, true, false, cond, eqb, List, [], ◌∷◌, ◌++◌, length, take, ap, ◌∙◌, arith}
 use Rattle.std.proofs.lemmas.List.{length-take}
-use Rattle.cases.specs.Cases.{StateValue, CaseValue}
+use Rattle.cases.specs.Cases.{CaseValue}
 use Rattle.cases.specs.Numbers.{state_number}
-use Rattle.books.specs.declared.totals.Totals.{Totals}
 use Rattle.books.specs.Totals.{one_in, count_in, totals_of, counted, Below}
 
 at_most_one : (b : Bool) → cond b 1 0 ≤ 1

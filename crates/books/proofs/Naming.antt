@@ -1,5 +1,5 @@
 -- Names that are apart, and where a name stands.
-use Rattle.std.proofs.Common.{◌≡◌, false, List, [], ◌∷◌, ◌++◌, map, is_some, refl, ap}
+use Rattle.std.proofs.Common.{◌≡◌, false, List, [], ◌∷◌, ◌++◌, is_some, refl, ap}
 use Rattle.std.specs.List.{AllByRecursion as All}
 use Rattle.std.proofs.ByRecursion.{All-push, All-map}
 use Rattle.table.proofs.Bridges.{place_missed}

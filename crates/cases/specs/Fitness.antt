@@ -1,5 +1,5 @@
 -- Cases whose values are fit.
-use Rattle.std.specs.Prelude.{◌≡◌, ℕ, true, List, is_some, IfSome}
+use Rattle.std.specs.Prelude.{◌≡◌, true, is_some, IfSome}
 use Rattle.values.specs.Codes as codes
 use Rattle.values.specs.Texts as texts
 use Rattle.values.specs.Amounts as amounts

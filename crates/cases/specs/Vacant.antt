@@ -1,5 +1,5 @@
 -- What stands in rows that are vacant.
-use Rattle.std.specs.Prelude.{[], ◌∷◌, replicate, codes}
+use Rattle.std.specs.Prelude.{replicate, codes}
 use Rattle.cases.specs.Cases.{CaseValue, request, opened}
 
 -- a case that no book shows

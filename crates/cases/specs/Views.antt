@@ -1,5 +1,4 @@
 -- What the cases of the code mean.
-use Rattle.std.specs.Prelude.{ℕ, List}
 use Rattle.values.specs.Views.{characters}
 use Rattle.cases.specs.declared.case.CaseName.{CaseName}
 use Rattle.cases.specs.declared.case.Subject.{Subject}

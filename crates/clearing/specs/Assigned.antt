@@ -1,5 +1,5 @@
 -- The fields that a line assigns.
-use Rattle.std.specs.Prelude.{List, map, vec_items}
+use Rattle.std.specs.Prelude.{vec_items}
 use Rattle.tags.specs.Tags.{number_of}
 use Rattle.block.specs.Fields.{FieldValue}
 use Rattle.clearing.specs.declared.values.Assigned.{Assigned}

@@ -1,5 +1,5 @@
 -- Hex digits and decimal numbers, as scripts write them.
-use Rattle.std.specs.Prelude.{ℕ, ◌+◌, ◌-◌, ◌*◌, Bool, cond, ◌&&◌, List, [], ◌∷◌, Some, None, Option, nat_le}
+use Rattle.std.specs.Prelude.{ℕ, ◌+◌, ◌-◌, Bool, cond, ◌&&◌, Some, None, Option, nat_le}
 
 -- low to high, both included
 abbrev pub within : ℕ → ℕ → ℕ → Bool

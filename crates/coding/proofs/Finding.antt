@@ -1,5 +1,5 @@
 -- The fields of a fit case give that case again.
-use Rattle.std.proofs.Common.{◌≡◌, ℕ, Bool, true, false, cond, eqb, List, [], ◌∷◌, ◌++◌, length, is_some, IfSome, Some, None, Option, sym, refl, ap, ◌∙◌, ⊎_elim, arith}
+use Rattle.std.proofs.Common.{◌≡◌, ℕ, true, false, eqb, List, [], ◌∷◌, ◌++◌, length, is_some, IfSome, Some, None, Option, sym, refl, ap, ◌∙◌, ⊎_elim}
 use Rattle.std.proofs.lemmas.Bool.{eq-eqb, eqb-true, cases_Bool, true≢false}
 use Rattle.octets.specs.Bytes.{kept}
 use Rattle.block.specs.Fields.{FieldValue, value_of}
@@ -16,7 +16,7 @@ use Rattle.cases.specs.declared.case.OriginalKind.TheVariants.{CustomerTransfer,
 use Rattle.cases.specs.Cases.{SubjectValue, request, recall, StateValue, opened, pending, agreed, declined, withdrawn, CaseValue}
 use Rattle.cases.specs.Numbers.{subject_number, original_number, original_of, state_number, closing_of, state_of}
 use Rattle.cases.specs.Fitness.{FitSubject, Fit}
-use Rattle.coding.specs.CaseFields.{opening_fields, original_fields, closing_fields, state_fields, transaction_fields, case_fields}
+use Rattle.coding.specs.CaseFields.{original_fields, closing_fields, state_fields, transaction_fields, case_fields}
 use Rattle.coding.specs.Decoding.{formed_identifier_in, name_in, original_in, subject_by, subject_in, state_in, case_in}
 use Rattle.coding.proofs.Writing.{identifier_length}
 

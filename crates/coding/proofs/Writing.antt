@@ -1,18 +1,18 @@
 -- The fields of a fit case may be written.
-use Rattle.std.proofs.Common.{◌≡◌, ℕ, ◌<◌, true, ◌&&◌, eqb, leb, List, [], ◌∷◌, ◌++◌, length, IfSome, Some, None, Option, sym, refl, ap, ◌∙◌, ⊎_elim, arith, lit<}
-use Rattle.std.proofs.lemmas.Bool.{eqb-true, and_parts, and_from, cases_eq, true≢false}
-use Rattle.octets.specs.Bytes.{same_bytes, every, is_digit, is_printable}
+use Rattle.std.proofs.Common.{◌≡◌, ℕ, ◌<◌, true, ◌&&◌, eqb, leb, List, ◌++◌, length, IfSome, Some, None, Option, sym, refl, ap, ◌∙◌, ⊎_elim, lit<}
+use Rattle.std.proofs.lemmas.Bool.{eqb-true, and_parts, cases_eq, true≢false}
+use Rattle.octets.specs.Bytes.{every, is_printable}
 use Rattle.tags.specs.Tags.{rule_of, admitted, listed}
-use Rattle.block.specs.Fields.{FieldValue, Legal}
+use Rattle.block.specs.Fields.{Legal}
 use Rattle.values.specs.Codes.{member_code, uetr}
 use Rattle.values.specs.Texts.{end_to_end}
 use Rattle.values.specs.Amounts.{amount_bytes}
 use Rattle.values.specs.Identifiers.{identifier}
 use Rattle.values.proofs.Identifiers.{wrong_length}
-use Rattle.cases.specs.Cases.{SubjectValue, request, recall, StateValue, CaseValue}
+use Rattle.cases.specs.Cases.{SubjectValue, request, recall, CaseValue}
 use Rattle.cases.specs.Numbers.{closing_of}
 use Rattle.cases.specs.Fitness.{FitSubject, Fit}
-use Rattle.coding.specs.CaseFields.{opening_fields, original_fields, closing_fields, state_fields, transaction_fields, case_fields}
+use Rattle.coding.specs.CaseFields.{original_fields, closing_fields, state_fields, transaction_fields, case_fields}
 
 -- How long fit values are.
 

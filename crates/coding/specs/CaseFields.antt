@@ -33,7 +33,7 @@ closing_fields (Some id) = field 13 id ∷ []
 abbrev pub state_fields : StateValue → List FieldValue
 state_fields s = field 12 (state_number s ∷ []) ∷ closing_fields (closing_of s)
 
--- the reference, the end_to_end identification and the amount of its transaction
+-- the reference, the end-to-end identification and the amount of its transaction
 abbrev pub transaction_fields : CaseValue → List FieldValue
 transaction_fields c =
     field 16 c.name.uetr

@@ -1,15 +1,13 @@
 -- Bytes that are judged from the front: cases so far, and what is left.
-use Rattle.std.proofs.Common.{◌≡◌, ℕ, zero, suc, ◌+◌, ◌-◌, ◌*◌, ◌/◌, ◌%◌, ◌<◌, ◌≤◌, Bool, true, false, cond, ◌&&◌, eqb, List, [], ◌∷◌, ◌++◌, length, get_or, take, drop, replicate, is_some, Some, None, sym, refl, ap, ◌∙◌, subst, ⊎_elim, arith}
+use Rattle.std.proofs.Common.{◌≡◌, ℕ, zero, suc, ◌+◌, ◌-◌, ◌*◌, ◌/◌, ◌%◌, ◌<◌, ◌≤◌, true, false, eqb, List, [], ◌∷◌, ◌++◌, length, get_or, take, drop, replicate, is_some, Some, None, sym, refl, ap, ◌∙◌, subst, ⊎_elim, arith}
 use Rattle.std.specs.List.{slice_get, flat_map, AllByRecursion as All}
 use Rattle.std.proofs.ByRecursion.{All-push, All-take}
-use Rattle.std.proofs.lemmas.List.{append_assoc, length-append, length-replicate, length_push, length-take-le, take-append-drop, take_at, drop_at, drop-drop, drop-replicate, flat_map_more}
+use Rattle.std.proofs.lemmas.List.{append_assoc, length-append, length_push, length-take-le, take-append-drop, take_at, drop_at, drop-drop, drop-replicate, flat_map_more}
 use Rattle.std.proofs.lemmas.Option.{slice_get-get_or}
-use Rattle.std.proofs.lemmas.Bool.{and_parts, and_from, eqb-true, eq-eqb, cases_lt, true≢false}
-use Rattle.octets.specs.Bytes.{every}
+use Rattle.std.proofs.lemmas.Bool.{and_parts, eqb-true, cases_lt, true≢false}
 use Rattle.block.specs.Fields.{fields_of}
-use Rattle.table.specs.Lists.{place}
 use Rattle.table.proofs.Bridges.{place_none}
-use Rattle.cases.specs.Cases.{NameValue, CaseValue, same_name}
+use Rattle.cases.specs.Cases.{CaseValue, same_name}
 use Rattle.cases.specs.Vacant.{vacant}
 use Rattle.cases.specs.Fitness.{Fit}
 use Rattle.books.specs.Books.{has_name, place_of, names, Apart, fit_capacity}

@@ -1,20 +1,18 @@
 -- What is written reads back, and bytes that read are the only ones with their fields.
-use Rattle.std.proofs.Common.{◌≡◌, ℕ, zero, suc, ◌+◌, ◌*◌, ◌/◌, ◌%◌, ◌<◌, ◌≤◌, Bool, true, false, cond, ◌&&◌, eqb, ltb, leb, List, [], ◌∷◌, ◌++◌, map, length, get_or, take, drop, Some, None, Ok, Err, Option, sym, refl, ap, ◌∙◌, subst, ⊎_elim, arith}
+use Rattle.std.proofs.Common.{◌≡◌, ℕ, zero, suc, ◌+◌, ◌*◌, ◌/◌, ◌%◌, ◌<◌, ◌≤◌, true, false, ◌&&◌, eqb, ltb, leb, List, [], ◌∷◌, ◌++◌, map, length, get_or, take, drop, Some, None, Ok, Err, Option, sym, refl, ap, ◌∙◌, ⊎_elim, arith}
 use Rattle.std.specs.List.{flat_map}
-use Rattle.std.specs.Option.{option_or}
 use Rattle.std.proofs.lemmas.List.{length-append, length-take-le, length-drop, take_at, drop_at, get_or-take, get_or-drop, take-append-drop, length-take, get_or_past, nil_from_length}
 use Rattle.std.proofs.lemmas.Bool.{cases_Bool, cases_lt, cond-true, lt-ltb, eq-eqb, le-leb, ltb-true, eqb-true, leb-true, and_from, and_parts}
-use Rattle.block.specs.Fields.{FieldValue, Legal, fields_of, value_of}
-use Rattle.block.specs.Block.{Block, checks, block_of}
+use Rattle.block.specs.Fields.{FieldValue, value_of}
+use Rattle.block.specs.Block.{checks, block_of}
 use Rattle.block.specs.Reading.{Reading, layout, reading}
 use Rattle.block.proofs.Laws.{reads_back, reading_parts, reading_holds, layout_fields_of}
 use Rattle.block.proofs.Laying.{length-block_of}
-use Rattle.message.specs.declared.shapes.Kind.{Kind}
 use Rattle.message.specs.declared.refusal.Location.{Location}
 use Rattle.message.specs.declared.refusal.Layer.{Layer}
 use Rattle.message.specs.declared.refusal.Layer.TheVariants.{Blocks, Fields}
 use Rattle.block.specs.Cutting.{blocks, blocks_of}
-use Rattle.message.specs.Messages.{MessageReading, whole, held, located, first_fault, check_fault, broken_at, layout_fault, values_fault, kind_by, message_kind, kind_in, first_tags_fault, unless, judged_fields, block_fields, judged_blocks, read_message, written_as, AllLegal, WrittenReadsBack, OnlyMessage}
+use Rattle.message.specs.Messages.{MessageReading, whole, held, first_fault, check_fault, broken_at, layout_fault, values_fault, kind_by, message_kind, kind_in, first_tags_fault, unless, judged_fields, block_fields, judged_blocks, read_message, written_as, AllLegal, WrittenReadsBack, OnlyMessage}
 use Rattle.block.proofs.Cutting.{blocks_of-more}
 use Rattle.message.proofs.Gathering.{located_none}
 

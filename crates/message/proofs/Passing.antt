@@ -1,5 +1,5 @@
 -- A pass over a block's fields, one field further on.
-use Rattle.std.proofs.Common.{◌≡◌, ℕ, Bool, true, false, cond, List, [], ◌∷◌, Some, None, Ok, Err, Option, sym, refl, ap, ◌∙◌}
+use Rattle.std.proofs.Common.{◌≡◌, ℕ, Bool, true, false, cond, List, ◌∷◌, Some, None, Ok, Err, Option, sym, refl, ap, ◌∙◌}
 use Rattle.std.specs.Option.{option_or}
 use Rattle.tags.specs.declared.listing.Tag.{Tag}
 use Rattle.tags.specs.declared.listing.Tag.TheVariants as tag

@@ -1,5 +1,5 @@
 -- The refusals in their order.
-use Rattle.std.proofs.Common.{◌≡◌, ℕ, ◌≤◌, true, false, List, map, Some, None, Ok, Err, Option, sym, ap, ◌∙◌, arith}
+use Rattle.std.proofs.Common.{◌≡◌, ℕ, true, false, List, map, Some, None, Ok, Err, ap, ◌∙◌, arith}
 use Rattle.std.proofs.lemmas.Bool.{cond-true, cond-false}
 use Rattle.message.specs.declared.refusal.Location.{Location}
 use Rattle.message.specs.declared.refusal.Layer.TheVariants.{Blocks}

@@ -1,5 +1,5 @@
 -- The kinds of message, and the fields that their blocks have.
-use Rattle.std.specs.Prelude.{ℕ, Bool, true, false, cond, List, [], ◌∷◌, map, Some, None, Option, ◌==◌, nat_lt}
+use Rattle.std.specs.Prelude.{ℕ, cond, List, [], ◌∷◌, Some, None, Option, ◌==◌, nat_lt}
 use Rattle.tags.specs.declared.listing.Tag.{Tag}
 use Rattle.tags.specs.declared.listing.Tag.TheVariants as tag
 use Rattle.tags.specs.Tags.{number_of}

@@ -1,5 +1,5 @@
 -- What the answer of a table says of its rows.
-use Rattle.std.proofs.Common.{◌≡◌, ℕ, true, false, ltb, Ok, Err, refl, ⊎_elim, arith}
+use Rattle.std.proofs.Common.{◌≡◌, ℕ, true, false, ltb, Ok, Err, ⊎_elim, arith}
 use Rattle.std.proofs.lemmas.Bool.{cases_Bool}
 use Rattle.table.specs.declared.TableRefusal.{TableRefusal}
 use Rattle.table.specs.declared.TableRefusal.TheVariants.{Full}

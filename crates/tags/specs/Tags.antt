@@ -1,5 +1,5 @@
 -- The listed tags: which fields a block may hold, how long each value may be and what form it has.
-use Rattle.std.specs.Prelude.{ℕ, Bool, true, false, ◌&&◌, List, [], ◌∷◌, Some, None, Option, nat_le, slice_index_or}
+use Rattle.std.specs.Prelude.{ℕ, Bool, false, ◌&&◌, List, [], ◌∷◌, Some, None, Option, nat_le, slice_index_or}
 use Rattle.tags.specs.declared.listing.Tag.{Tag}
 use Rattle.tags.specs.declared.listing.Tag.TheVariants as tag
 use Rattle.tags.specs.declared.listing.Form.{Form}

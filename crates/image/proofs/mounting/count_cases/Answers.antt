@@ -1,15 +1,15 @@
-use Rattle.std.proofs.Common.{◌≡◌, ℕ, ◌+◌, ◌-◌, ◌*◌, ◌/◌, ◌%◌, ◌<◌, ◌≤◌, true, false, eqb, leb, List, [], ◌++◌, length, take, drop, is_some, Option, sym, ap, ◌∙◌, subst, arith, MatchOption}
+use Rattle.std.proofs.Common.{◌≡◌, ℕ, ◌-◌, ◌*◌, ◌/◌, ◌%◌, ◌≤◌, true, eqb, leb, List, ◌++◌, length, take, drop, is_some, Option, sym, ap, ◌∙◌, subst, arith, MatchOption}
 use Rattle.std.proofs.lemmas.List.{nil_from_length, take-append-drop}
 use Rattle.std.proofs.lemmas.Bool.{and_parts, and_from, eqb-true, eq-eqb, leb-true, true≢false}
 use Rattle.block.specs.Cutting.{blocks_of}
 use Rattle.table.specs.Lists.{place}
 use Rattle.cases.specs.Cases.{CaseValue}
-use Rattle.cases.specs.Views.{name_view, view}
+use Rattle.cases.specs.Views.{view}
 use Rattle.cases.proofs.Fits.{fit_case}
 use Rattle.books.specs.Books.{place_of, fit_capacity}
 use Rattle.coding.specs.CaseFields.{case_block}
 use Rattle.image.specs.Image.{fit_length, all_zero, ImageOf, cases_in, named}
-use Rattle.image.proofs.Images.{length-cases_in, place_in_blocks}
+use Rattle.image.proofs.Images.{place_in_blocks}
 use Rattle.image.proofs.Keeping.{length_whole}
 use Rattle.image.proofs.Judging.{Held, length_rest, front_bytes, held_more, held_all, no_case, name_again}
 use Rattle.image.proofs.mounting.count_cases.Goals as goal

@@ -1,4 +1,4 @@
-use Rattle.std.proofs.Common.{◌≡◌, ◌+◌, ◌≤◌, length, sym, ap, ◌∙◌, arith}
+use Rattle.std.proofs.Common.{◌+◌, ◌≤◌, length, sym, ap, ◌∙◌, arith}
 use Rattle.block.specs.Reading.{layout}
 use Rattle.message.specs.Scanning.{report}
 use Rattle.message.specs.Findings.{with_report, gathered}

@@ -1,4 +1,4 @@
-use Rattle.std.proofs.Common.{◌≡◌, length, Some, sym, ap, ◌∙◌, arith}
+use Rattle.std.proofs.Common.{Some, sym, ap, ◌∙◌, arith}
 use Rattle.message.specs.Findings.{judged_findings, refused}
 use Rattle.block.specs.Cutting.{blocks_of}
 use Rattle.message.proofs.Forms.{whole_parts, header_kind}

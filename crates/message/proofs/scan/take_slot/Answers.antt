@@ -1,4 +1,4 @@
-use Rattle.std.proofs.Common.{◌≡◌, ◌≤◌, length, sym, ◌∙◌, arith, ltb-false, ltb-true}
+use Rattle.std.proofs.Common.{◌≤◌, length, sym, ◌∙◌, arith, ltb-false, ltb-true}
 use Rattle.tags.specs.declared.listing.Tag.TheVariants.{Kind}
 use Rattle.message.specs.declared.shapes.Need.TheVariants.{Required}
 use Rattle.message.proofs.Slots.{slot_taken, slot_passed, no_slot}

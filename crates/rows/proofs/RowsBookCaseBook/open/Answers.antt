@@ -1,7 +1,7 @@
-use Rattle.std.proofs.Common.{◌≡◌, true, false, ltb, List, [], ◌∷◌, ◌++◌, map, length, is_some, is_ok, Ok, Err, sym, refl, ap, ◌∙◌, subst}
+use Rattle.std.proofs.Common.{◌≡◌, true, false, ltb, [], ◌∷◌, ◌++◌, map, length, is_some, is_ok, sym, refl, ap, ◌∙◌, subst}
 use Rattle.std.proofs.lemmas.Bool.{cond-true, cond-false}
 use Rattle.std.proofs.lemmas.List.{map_push, length-map}
-use Rattle.table.specs.Meaning.{rows_of, limit_of, add_answer}
+use Rattle.table.specs.Meaning.{rows_of, limit_of}
 use Rattle.table.proofs.Bridges.{any-map, any_place}
 use Rattle.table.proofs.Adding.{add_done, add_refused}
 use Rattle.cases.specs.Views.{view}

@@ -1,4 +1,4 @@
-use Rattle.std.proofs.Common.{◌≡◌, ◌<◌, ◌≤◌, length, sym, refl, ◌∙◌, subst}
+use Rattle.std.proofs.Common.{◌<◌, ◌≤◌, length, sym, refl, ◌∙◌, subst}
 use Rattle.block.specs.Fields.{last_tag}
 use Rattle.block.specs.Writer.{written}
 use Rattle.block.proofs.Putting.{unlisted_tag, unlisted_length, not_rising, is_put, listed_by_rule}

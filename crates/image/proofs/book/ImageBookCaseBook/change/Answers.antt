@@ -1,4 +1,4 @@
-use Rattle.std.proofs.Common.{◌≡◌, ◌/◌, ◌<◌, ◌≤◌, true, false, length, Some, None, sym, refl, ap, ◌∙◌, subst, arith, rules}
+use Rattle.std.proofs.Common.{◌≡◌, ◌/◌, ◌<◌, length, Some, None, sym, refl, ap, ◌∙◌, subst, arith, rules}
 use Rattle.std.specs.List.{slice_get}
 use Rattle.std.specs.Option.{option_map}
 use Rattle.std.proofs.lemmas.Bool.{cond-true, cond-false, lt-ltb, le-ltb}
@@ -7,10 +7,9 @@ use Rattle.cases.specs.Cases.{with_state}
 use Rattle.cases.specs.Views.{view, state_view}
 use Rattle.cases.proofs.Fits.{fit_closing}
 use Rattle.books.specs.Books.{changed}
-use Rattle.coding.specs.CaseFields.{case_block}
 use Rattle.image.specs.Image.{ImageOf, cases_in}
 use Rattle.image.specs.Books.{cases_of}
-use Rattle.image.proofs.Images.{length-cases_in, with_block}
+use Rattle.image.proofs.Images.{length-cases_in}
 use Rattle.image.proofs.Keeping.{length_whole, cases_again, changed_image}
 use Rattle.image.proofs.book.ImageBookCaseBook.change.Goals as goal
 
