@@ -1,6 +1,6 @@
 -- What a book of cases is: a list of cases and a capacity; and what is asked of it and done to it.
 use Rattle.std.specs.Prelude.{◌≡◌, ℕ, ◌≤◌, Bool, true, false, ◌&&◌, List, [], ◌∷◌, map, length, Option, nat_le}
-use Rattle.std.specs.List.{AllByRecursion as All}
+use Rattle.std.specs.List.{AllByRecursion}
 use Rattle.table.specs.Lists.{place, first, any, alter, alter_at}
 use Rattle.cases.specs.Cases.{NameValue, StateValue, opened, CaseValue, same_name, with_state}
 
@@ -45,7 +45,7 @@ names cs = map (λ c. c.name) cs
 -- no two of the names are one
 abbrev pub Apart : List NameValue → Type 0
 Apart [] = Unit {0}
-Apart (n ∷ ns) = All (λ m. same_name n m ≡ false) ns × Apart ns
+Apart (n ∷ ns) = AllByRecursion (λ m. same_name n m ≡ false) ns × Apart ns
 
 -- a book has room for 1 to 4,096 cases
 abbrev pub fit_capacity : ℕ → Bool

@@ -2,7 +2,7 @@
 use Rattle.std.specs.Prelude.{vec_items}
 use Rattle.tags.specs.Tags.{number_of}
 use Rattle.block.specs.Fields.{FieldValue}
-use Rattle.clearing.specs.declared.values.Assigned.{Assigned}
+use Rattle.clearing.specs.declared.assigning.Assigned.{Assigned}
 
 -- a field as the block holds it
 abbrev pub field_value : Assigned → FieldValue

@@ -1,8 +1,8 @@
 //! Printing what a book holds.
 use crate::answers::Style;
+use crate::assigning::push_text;
 use crate::faults::OutOfMemory;
 use crate::hex::push_all;
-use crate::values::push_text;
 use books::book::CaseBook;
 use books::totals::{Totals, totals_of};
 use cases::case::{Case, State, Subject};

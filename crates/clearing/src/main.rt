@@ -6,6 +6,7 @@
 #![tactic(auto)]
 
 mod answers;
+mod assigning;
 mod book_answers;
 mod book_words;
 mod desk;
@@ -16,7 +17,6 @@ mod making;
 mod names;
 mod reading;
 mod session;
-mod values;
 mod words;
 
 ghost use Rattle.clearing.specs.Lines.{NothingDone};

@@ -1,8 +1,8 @@
 //! Reading bytes as a message, and printing what it holds or why they are refused.
 use crate::answers::Style;
+use crate::assigning::push_value;
 use crate::faults::OutOfMemory;
 use crate::names::name_of;
-use crate::values::push_value;
 use block::BLOCK;
 use block::fields::{Fields, Part};
 use content::decode::{Content, decode};

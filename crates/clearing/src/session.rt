@@ -3,10 +3,10 @@ ghost use Rattle.std.specs.Prelude.{◌≡◌, IfNone};
 ghost use Rattle.clearing.specs.Lines.{NothingDone};
 
 use crate::answers::Style;
+use crate::assigning::{Assigned, assignment, composed};
 use crate::faults::{LineFault, OutOfMemory, ScriptError};
 use crate::hex::{number, push_all, push_bytes};
 use crate::reading::show_read;
-use crate::values::{Assigned, assignment, composed};
 use block::BLOCK;
 use std::alloc::Global;
 use std::fmt::Write;

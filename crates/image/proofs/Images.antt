@@ -1,6 +1,6 @@
 -- Images: what their blocks hold, and what writing one block makes of them.
 use Rattle.std.proofs.Common.{◌≡◌, ℕ, zero, suc, ◌+◌, ◌*◌, ◌/◌, ◌≤◌, ◌&&◌, List, [], ◌∷◌, ◌++◌, map, length, take, drop, Some, None, Option, unwrap_or, sym, refl, ap, ◌∙◌, subst, arith}
-use Rattle.std.specs.List.{slice_get, flat_map, AllByRecursion as All}
+use Rattle.std.specs.List.{slice_get, flat_map, AllByRecursion}
 use Rattle.std.specs.Option.{option_map}
 use Rattle.std.proofs.ByRecursion.{All-weaker, All-take}
 use Rattle.std.proofs.lemmas.List.{append_assoc, length-append, take_at, drop_at, take-append-drop, drop-drop, length-take-le, flat_map_more}
@@ -27,7 +27,7 @@ named_case_block c f n =
     ∙ ap (λ o. is_value (Some c.name.identifier) n.identifier && is_value o n.uetr) (uetr_value c f)
 
 -- a case of a list of fit cases is fit
-pub nth_fit : (cs : List CaseValue) (i : ℕ) (c : CaseValue) → All Fit cs → slice_get cs i ≡ Some c → Fit c
+pub nth_fit : (cs : List CaseValue) (i : ℕ) (c : CaseValue) → AllByRecursion Fit cs → slice_get cs i ≡ Some c → Fit c
 nth_fit [] i c a e = let z : ◌≡◌ {A = ℕ} 0 1 = cc in absurd (omega arith)
 nth_fit (d ∷ cs) zero c a e = let same : d ≡ c = cc in subst Fit same a.0
 nth_fit (d ∷ cs) (suc i) c a e = nth_fit cs i c a.1 e
@@ -42,12 +42,12 @@ pub joined_append : (cs ds : List CaseValue) → flat_map case_block (cs ++ ds) 
 joined_append [] ds = refl
 joined_append (c ∷ cs) ds = ap (λ r. case_block c ++ r) (joined_append cs ds) ∙ sym (append_assoc (case_block c) (flat_map case_block cs) (flat_map case_block ds))
 
-pub length-joined : (cs : List CaseValue) → All Fit cs → length (flat_map case_block cs) ≡ 512 * length cs
+pub length-joined : (cs : List CaseValue) → AllByRecursion Fit cs → length (flat_map case_block cs) ≡ 512 * length cs
 length-joined [] a = refl
 length-joined (c ∷ cs) a = length-append (case_block c) (flat_map case_block cs) ∙ omega (arith, length-case_block c a.0, length-joined cs a.1)
 
 -- the cases that the blocks hold are the cases that they were written for
-pub cases_in_front : (cs : List CaseValue) → All Fit cs → (zs : List ℕ) → cases_in (length cs) (flat_map case_block cs ++ zs) ≡ cs
+pub cases_in_front : (cs : List CaseValue) → AllByRecursion Fit cs → (zs : List ℕ) → cases_in (length cs) (flat_map case_block cs ++ zs) ≡ cs
 cases_in_front [] a zs = refl
 cases_in_front (c ∷ cs) a zs =
     let n = length-case_block c a.0 in
@@ -59,7 +59,7 @@ cases_in_front (c ∷ cs) a zs =
     ∙ ap (λ r. c ∷ cases_in (length cs) r) d
     ∙ ap (λ r. c ∷ r) (cases_in_front cs a.1 zs)
 
-blocks_joined : (cs : List CaseValue) → All Fit cs → blocks (length cs) (flat_map case_block cs) ≡ map case_block cs
+blocks_joined : (cs : List CaseValue) → AllByRecursion Fit cs → blocks (length cs) (flat_map case_block cs) ≡ map case_block cs
 blocks_joined [] a = refl
 blocks_joined (c ∷ cs) a =
     let n = length-case_block c a.0 in
@@ -68,7 +68,7 @@ blocks_joined (c ∷ cs) a =
     ∙ ap (λ r. case_block c ∷ r) (blocks_joined cs a.1)
 
 -- a name stands among the blocks where it stands among the cases
-pub place_in_blocks : (n : NameValue) (cs : List CaseValue) → All Fit cs → place (named n) (blocks_of (flat_map case_block cs)) ≡ place_of n cs
+pub place_in_blocks : (n : NameValue) (cs : List CaseValue) → AllByRecursion Fit cs → place (named n) (blocks_of (flat_map case_block cs)) ≡ place_of n cs
 unfolding blocks_of
 place_in_blocks n cs a =
     let k : length (flat_map case_block cs) / 512 ≡ length cs = omega (arith, length-joined cs a) in
@@ -106,7 +106,7 @@ joined_around as' c bs zs =
 joined_split : (cs : List CaseValue) (i : ℕ) (c : CaseValue) (zs : List ℕ) → slice_get cs i ≡ Some c → flat_map case_block cs ++ zs ≡ flat_map case_block (take i cs) ++ (case_block c ++ (flat_map case_block (drop (i + 1) cs) ++ zs))
 joined_split cs i c zs e = ap (λ r. flat_map case_block r ++ zs) (split_at cs i c e) ∙ joined_around (take i cs) c (drop (i + 1) cs) zs
 
-pub length_front : (cs : List CaseValue) (i : ℕ) (c : CaseValue) → All Fit cs → slice_get cs i ≡ Some c → length (flat_map case_block (take i cs)) ≡ 512 * i
+pub length_front : (cs : List CaseValue) (i : ℕ) (c : CaseValue) → AllByRecursion Fit cs → slice_get cs i ≡ Some c → length (flat_map case_block (take i cs)) ≡ 512 * i
 length_front cs i c a e =
     let h : i ≤ length cs = let l = nth_within cs i c e in omega arith in
     length-joined (take i cs) (All-take Fit i cs a) ∙ ap (λ k. 512 * k) (length-take-le i cs h)
@@ -128,7 +128,7 @@ module _ (ps xs ss : List ℕ) (i : ℕ) (m : length ps ≡ 512 * i) (k : length
 abbrev pub with_block : List ℕ → ℕ → List ℕ → List ℕ
 with_block bytes i block = take (512 * i) bytes ++ (block ++ drop (512 * i + 512) bytes)
 
-module _ (cs : List CaseValue) (a : All Fit cs) (zs : List ℕ) where
+module _ (cs : List CaseValue) (a : AllByRecursion Fit cs) (zs : List ℕ) where
   pub read_front : (i : ℕ) (c : CaseValue) → slice_get cs i ≡ Some c → take 512 (drop (512 * i) (flat_map case_block cs ++ zs)) ≡ case_block c
   read_front i c e =
       let f : Fit c = nth_fit cs i c a e in

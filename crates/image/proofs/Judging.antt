@@ -1,6 +1,6 @@
 -- Bytes that are judged from the front: cases so far, and what is left.
 use Rattle.std.proofs.Common.{◌≡◌, ℕ, zero, suc, ◌+◌, ◌-◌, ◌*◌, ◌/◌, ◌%◌, ◌<◌, ◌≤◌, true, false, eqb, List, [], ◌∷◌, ◌++◌, length, get_or, take, drop, replicate, is_some, Some, None, sym, refl, ap, ◌∙◌, subst, ⊎_elim, arith}
-use Rattle.std.specs.List.{slice_get, flat_map, AllByRecursion as All}
+use Rattle.std.specs.List.{slice_get, flat_map, AllByRecursion}
 use Rattle.std.proofs.ByRecursion.{All-push, All-take}
 use Rattle.std.proofs.lemmas.List.{append_assoc, length-append, length_push, length-take-le, take-append-drop, take_at, drop_at, drop-drop, drop-replicate, flat_map_more}
 use Rattle.std.proofs.lemmas.Option.{slice_get-get_or}
@@ -33,7 +33,7 @@ zeros_blank (suc n) = zeros_blank n
 -- The first so many blocks are those of fit cases with names that are apart, and the rest lies behind them.
 
 pub record Held (bytes rest : List ℕ) (at : ℕ) : Type 0 where
-  pub fit : All Fit (cases_in at bytes)
+  pub fit : AllByRecursion Fit (cases_in at bytes)
   pub apart : Apart (names (cases_in at bytes))
   pub form : bytes ≡ flat_map case_block (cases_in at bytes) ++ rest
 
@@ -63,7 +63,7 @@ module _ (bytes rest : List ℕ) (at : ℕ) (s : Held bytes rest at) where
       let m : length ds ≡ at + 1 = length_push cs c ∙ ap (λ k. k + 1) (length-cases_in at bytes) in
       let again : cases_in (at + 1) bytes ≡ ds = ap (λ k. cases_in k bytes) (sym m) ∙ ap (cases_in (length ds)) g ∙ cases_in_front ds a more in
       record {
-        fit = subst (All Fit) (sym again) a;
+        fit = subst (AllByRecursion Fit) (sym again) a;
         apart = subst (λ (xs : List CaseValue). Apart (names xs)) (sym again) (subst Apart (sym (names-push cs c)) (apart-push (names cs) c.name s.apart (names_differ c.name cs q)));
         form = g ∙ ap (λ xs. flat_map case_block xs ++ more) (sym again);
       }
@@ -121,12 +121,12 @@ module _ (bytes rest : List ℕ) (at : ℕ) (s : Held bytes rest at) where
         ap (λ k. cases_in k bytes) (sym n) ∙ ap (cases_in (length (take at ds))) e ∙ cases_in_front (take at ds) (All-take Fit at ds i.fit) (flat_map case_block (drop at ds) ++ m)
 
 -- a case's name differs from the names before it
-apart_before : (ds : List CaseValue) (k : ℕ) (d : CaseValue) → Apart (names ds) → slice_get ds k ≡ Some d → All (λ c. has_name d.name c ≡ false) (take k ds)
+apart_before : (ds : List CaseValue) (k : ℕ) (d : CaseValue) → Apart (names ds) → slice_get ds k ≡ Some d → AllByRecursion (λ c. has_name d.name c ≡ false) (take k ds)
 apart_before [] k d a e = let z : ◌≡◌ {A = ℕ} 0 1 = cc in absurd (omega arith)
 apart_before (c ∷ ds) zero d a e = tt
 apart_before (c ∷ ds) (suc k) d a e = (differs ds k a.0 e, apart_before ds k d a.1 e)
   where
-    differs : (xs : List CaseValue) (j : ℕ) → All (λ m. same_name c.name m ≡ false) (names xs) → slice_get xs j ≡ Some d → same_name c.name d.name ≡ false
+    differs : (xs : List CaseValue) (j : ℕ) → AllByRecursion (λ m. same_name c.name m ≡ false) (names xs) → slice_get xs j ≡ Some d → same_name c.name d.name ≡ false
     differs [] j b q = let z : ◌≡◌ {A = ℕ} 0 1 = cc in absurd (omega arith)
     differs (x ∷ xs) zero b q = let same : x ≡ d = cc in ap (λ (y : CaseValue). same_name c.name y.name) (sym same) ∙ b.0
     differs (x ∷ xs) (suc j) b q = differs xs j b.1 q

@@ -1,6 +1,6 @@
 -- Bytes that are the image of cases stay the image of the cases that opening and changing leave.
 use Rattle.std.proofs.Common.{◌≡◌, ℕ, zero, suc, ◌-◌, ◌*◌, ◌/◌, ◌<◌, ◌≤◌, true, false, leb, List, [], ◌∷◌, ◌++◌, length, get_or, take, drop, replicate, is_some, IfSome, Some, None, sym, refl, ap, ◌∙◌, subst, ⊎_elim, arith}
-use Rattle.std.specs.List.{slice_get, flat_map, AllByRecursion as All}
+use Rattle.std.specs.List.{slice_get, flat_map, AllByRecursion}
 use Rattle.std.proofs.ByRecursion.{All-push}
 use Rattle.std.proofs.lemmas.Option.{slice_get-get_or}
 use Rattle.std.proofs.lemmas.Bool.{and_parts, leb-true, cases_lt}
@@ -38,18 +38,18 @@ fit_state s g c f =
       closing = g;
     }
 
-all-alter : (g : CaseValue → CaseValue) → ((c : CaseValue) → Fit c → Fit (g c)) → (cs : List CaseValue) (i : ℕ) → All Fit cs → All Fit (alter_at i g cs)
+all-alter : (g : CaseValue → CaseValue) → ((c : CaseValue) → Fit c → Fit (g c)) → (cs : List CaseValue) (i : ℕ) → AllByRecursion Fit cs → AllByRecursion Fit (alter_at i g cs)
 all-alter g h [] i a = tt
 all-alter g h (c ∷ cs) zero a = (h c a.0, a.1)
 all-alter g h (c ∷ cs) (suc i) a = (a.0, all-alter g h cs i a.1)
 
 -- an image of n blocks has 512 bytes for each
-pub length-image : (n : ℕ) (cs : List CaseValue) → All Fit cs → length cs ≤ n → length (image n cs) ≡ 512 * n
+pub length-image : (n : ℕ) (cs : List CaseValue) → AllByRecursion Fit cs → length cs ≤ n → length (image n cs) ≡ 512 * n
 unfolding image
 length-image n cs a h = length-append (flat_map case_block cs) _ ∙ omega (arith, length-joined cs a, length-replicate {A = ℕ} (512 * (n - length cs)) 0)
 
 -- the block behind the cases, written
-pub image-push : (n : ℕ) (cs : List CaseValue) (d : CaseValue) → All Fit cs → length cs < n → with_block (image n cs) (length cs) (case_block d) ≡ image n (cs ++ d ∷ [])
+pub image-push : (n : ℕ) (cs : List CaseValue) (d : CaseValue) → AllByRecursion Fit cs → length cs < n → with_block (image n cs) (length cs) (case_block d) ≡ image n (cs ++ d ∷ [])
 unfolding image
 image-push n cs d a h =
     let m = length_push cs d in
@@ -87,7 +87,7 @@ module _ (bytes : List ℕ) (cs : List CaseValue) (s : ImageOf bytes cs) where
       ∙ place_in_blocks n cs s.fit
 
   -- bytes of other cases, as many blocks
-  remade : (more : List ℕ) (ds : List CaseValue) → length ds ≤ length bytes / 512 → All Fit ds → Apart (names ds) → more ≡ image (length bytes / 512) ds → ImageOf more ds
+  remade : (more : List ℕ) (ds : List CaseValue) → length ds ≤ length bytes / 512 → AllByRecursion Fit ds → Apart (names ds) → more ≡ image (length bytes / 512) ds → ImageOf more ds
   remade more ds h a p e =
       let l : length more ≡ 512 * (length bytes / 512) = ap length e ∙ length-image (length bytes / 512) ds a h in
       let r : length more / 512 ≡ length bytes / 512 = omega arith in

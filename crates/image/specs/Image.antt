@@ -1,6 +1,6 @@
 -- Images: one case a block, then blocks of zeros.
 use Rattle.std.specs.Prelude.{◌≡◌, ℕ, zero, suc, ◌-◌, ◌*◌, ◌/◌, ◌%◌, ◌≤◌, Bool, true, false, ◌&&◌, List, [], ◌∷◌, ◌++◌, length, take, drop, replicate, Some, None, Option, ◌==◌, nat_eq}
-use Rattle.std.specs.List.{flat_map, AllByRecursion as All}
+use Rattle.std.specs.List.{flat_map, AllByRecursion}
 use Rattle.std.specs.Option.{unwrap_or}
 use Rattle.octets.specs.Bytes.{same_bytes, every}
 use Rattle.block.specs.Fields.{fields_of, value_of}
@@ -27,7 +27,7 @@ all_zero bs = every (λ b. nat_eq b 0) bs
 pub record ImageOf (bytes : List ℕ) (cs : List CaseValue) : Type 0 where
   pub capacity : fit_capacity (length bytes / 512) ≡ true
   pub within : length cs ≤ length bytes / 512
-  pub fit : All Fit cs
+  pub fit : AllByRecursion Fit cs
   pub apart : Apart (names cs)
   pub form : bytes ≡ image (length bytes / 512) cs
 

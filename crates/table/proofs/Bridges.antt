@@ -1,6 +1,6 @@
 -- Lists by test and by place: how the one way of speaking goes over into the other, over any list.
 use Rattle.std.proofs.Common.{◌≡◌, ℕ, zero, suc, ◌+◌, ◌<◌, ◌≤◌, Bool, true, false, cond, ◌||◌, List, [], ◌∷◌, ◌++◌, map, length, get_or, take, drop, set, is_some, Some, None, Option, sym, refl, ap, ◌∙◌, ⊎_elim, add-one, arith}
-use Rattle.std.specs.List.{slice_get, AllByRecursion as All}
+use Rattle.std.specs.List.{slice_get, AllByRecursion}
 use Rattle.std.specs.Option.{option_map}
 use Rattle.std.proofs.lemmas.List.{take_more, drop_more, length-map, length-take}
 use Rattle.std.proofs.lemmas.Option.{slice_get-get_or}
@@ -12,12 +12,12 @@ use Rattle.table.specs.Meaning.{rows_of, limit_of}
 -- Where a test first passes.
 
 module _ {X : Type 0} (test : X → Bool) where
-  pub place_at : (xs : List X) (i : ℕ) (d : X) → i < length xs → All (λ x. test x ≡ false) (take i xs) → test (get_or xs i d) ≡ true → place test xs ≡ Some i
+  pub place_at : (xs : List X) (i : ℕ) (d : X) → i < length xs → AllByRecursion (λ x. test x ≡ false) (take i xs) → test (get_or xs i d) ≡ true → place test xs ≡ Some i
   place_at [] i d h a t = absurd (omega arith)
   place_at (x ∷ xs) zero d h a t = cond-true (test x) _ _ t
   place_at (x ∷ xs) (suc i) d h a t = cond-false (test x) _ _ a.0 ∙ ap (option_map suc) (place_at xs i d (omega arith) a.1 t)
 
-  pub place_none : (xs : List X) → All (λ x. test x ≡ false) xs → place test xs ≡ None
+  pub place_none : (xs : List X) → AllByRecursion (λ x. test x ≡ false) xs → place test xs ≡ None
   place_none [] a = refl
   place_none (x ∷ xs) a = cond-false (test x) _ _ a.0 ∙ ap (option_map suc) (place_none xs a.1)
 
@@ -26,7 +26,7 @@ is_some_suc None = refl
 is_some_suc (Some i) = refl
 
 -- where no place is found, no element passes
-pub place_missed : {X : Type 0} (test : X → Bool) (xs : List X) → is_some (place test xs) ≡ false → All (λ x. test x ≡ false) xs
+pub place_missed : {X : Type 0} (test : X → Bool) (xs : List X) → is_some (place test xs) ≡ false → AllByRecursion (λ x. test x ≡ false) xs
 place_missed test [] h = tt
 place_missed test (x ∷ xs) h =
     ⊎_elim
@@ -108,7 +108,7 @@ any_place test (x ∷ xs) = go (test x) (any_place test xs)
 
 -- A list under two tests that agree, a list that is longer, or a list seen through a view.
 
-pub place_same : {X : Type 0} (f g : X → Bool) (xs : List X) → All (λ x. f x ≡ g x) xs → place f xs ≡ place g xs
+pub place_same : {X : Type 0} (f g : X → Bool) (xs : List X) → AllByRecursion (λ x. f x ≡ g x) xs → place f xs ≡ place g xs
 place_same f g [] a = refl
 place_same f g (x ∷ xs) a = ap (λ b. cond b (Some 0) (option_map suc (place f xs))) a.0 ∙ ap (λ p. cond (g x) (Some 0) (option_map suc p)) (place_same f g xs a.1)
 

@@ -1,5 +1,5 @@
 use Rattle.std.proofs.Common.{◌≡◌, ◌+◌, ◌-◌, ◌*◌, ◌/◌, ◌%◌, ◌<◌, ◌≤◌, true, ◌&&◌, eqb, [], ◌∷◌, ◌++◌, length, take, replicate, Some, sym, ap, ◌∙◌, subst, arith}
-use Rattle.std.specs.List.{slice_get, AllByRecursion as All}
+use Rattle.std.specs.List.{slice_get, AllByRecursion}
 use Rattle.std.specs.Option.{option_map}
 use Rattle.std.proofs.ByRecursion.{All-push}
 use Rattle.std.proofs.lemmas.List.{take_all, length-take-le}
@@ -43,7 +43,7 @@ loop-at-preserved g c =
                 ∙ ap (λ k. with_block (image room (take at cs)) k (case_block d)) (sym n)
                 ∙ image-push room (take at cs) d c.loop-at.invariant.1 h
                 ∙ ap (image room) (sym more),
-            subst (All Fit) (sym more) (All-push Fit (take at cs) d c.loop-at.invariant.1 (fit_case w.in-Some.case)),
+            subst (AllByRecursion Fit) (sym more) (All-push Fit (take at cs) d c.loop-at.invariant.1 (fit_case w.in-Some.case)),
           )
       | in_default w ↦
           let past : length cs ≤ at = nth_beyond cs at (sym c.case_at.ensures ∙ ap (option_map view) w.in_default.is) in

@@ -4,9 +4,9 @@ use Rattle.tags.specs.Tags.{number_of}
 use Rattle.block.specs.Fields.{FieldValue}
 use Rattle.block.specs.Block.{block_of}
 use Rattle.block.specs.Writer.{written}
-use Rattle.clearing.specs.declared.values.Assigned.{Assigned}
+use Rattle.clearing.specs.declared.assigning.Assigned.{Assigned}
 use Rattle.clearing.specs.Assigned.{field_value}
-use Rattle.clearing.proofs.values.composed.Goals as goal
+use Rattle.clearing.proofs.assigning.composed.Goals as goal
 
 -- a field put under its tag's number is the field that was assigned
 one_more : (fs gs : List FieldValue) (a : Assigned) (t : ℕ) (v : List ℕ) → gs ≡ fs ++ record { tag = t; value = v } ∷ [] → t ≡ number_of a.name.tag → v ≡ vec_items a.value → gs ≡ fs ++ field_value a ∷ []

@@ -1,7 +1,7 @@
 use Rattle.std.proofs.Common.{◌≡◌, map, take}
 use Rattle.block.specs.Writer.{Sound, written}
 use Rattle.clearing.specs.Assigned.{field_value}
-use Rattle.clearing.proofs.values.composed.Given as goal
+use Rattle.clearing.proofs.assigning.composed.Given as goal
 
 -- the writer holds the fields so far, over the same block
 abbrev pub invariant-loop-field : goal.invariant-loop-field
