@@ -43,6 +43,11 @@ struct Arguments {
     script: Option<String>,
 }
 
+/// What ends the program with an error: it is printed as `Error:` and the message in quotes.
+fn failure(message: &'static str) -> anyhow::Error {
+    anyhow!("{message:?}")
+}
+
 fn read_arguments(rt: &HostRuntime) -> anyhow::Result<Arguments> {
     let mut style = Style::Terse;
     let mut script = None;
@@ -50,7 +55,7 @@ fn read_arguments(rt: &HostRuntime) -> anyhow::Result<Arguments> {
         if word.as_str() == "explain" {
             style = Style::Explained;
         } else if script.is_some() {
-            return Err(anyhow!("expected one script at most: clearing [explain] [SCRIPT]"));
+            return Err(failure("expected one script at most: clearing [explain] [SCRIPT]"));
         } else {
             script = Some(word);
         }
@@ -214,7 +219,7 @@ fn run_lines<D: Desk>(
                 eprintln!(rt; "line {number}: {fault}")?;
                 lines.count_fault();
             }
-            Err(ScriptError::Memory) => return Err(anyhow!("out of memory")),
+            Err(ScriptError::Memory) => return Err(failure("out of memory")),
         }
     }
     Ok(None)
@@ -258,7 +263,7 @@ fn run(rt: &HostRuntime) -> anyhow::Result<()> {
     let Arguments { style, script } = read_arguments(rt)?;
     let script = input(rt, script)?;
     if run_script(rt, style, script.as_slice())? > 0 {
-        return Err(anyhow!("lines that made no sense were passed over"));
+        return Err(failure("lines that made no sense were passed over"));
     }
     Ok(())
 }
