@@ -3,7 +3,7 @@ ghost use Rattle.std.specs.Prelude.{◌≡◌};
 ghost use Rattle.tags.specs.Faults.{fault_number, fault_place, refusal_number};
 
 /// Why a block does not read.
-#[derive(Clone, Copy)]
+#[derive(Clone, Copy, Debug, PartialEq, Eq)]
 pub enum BlockFault {
     /// The check is not that of the bytes before it.
     WrongCheck,
@@ -12,7 +12,7 @@ pub enum BlockFault {
 }
 
 /// Why a field is not written.
-#[derive(Clone, Copy)]
+#[derive(Clone, Copy, Debug, PartialEq, Eq)]
 pub enum FieldRefusal {
     /// No field has this tag.
     UnlistedTag,

@@ -3,7 +3,7 @@ ghost use Rattle.std.specs.Prelude.{◌≡◌, IfSome};
 ghost use Rattle.tags.specs.Tags.{number_of, rule_of, admits};
 
 /// A listed tag, with its number in a block.
-#[derive(Clone, Copy)]
+#[derive(Clone, Copy, Debug, PartialEq, Eq)]
 pub enum Tag {
     Kind = 1,
     Identifier = 2,
@@ -28,7 +28,7 @@ pub enum Tag {
 }
 
 /// What the bytes of a value are.
-#[derive(Clone, Copy)]
+#[derive(Clone, Copy, Debug, PartialEq, Eq)]
 pub enum Form {
     /// A reference, compared as a whole.
     Identifier,
@@ -41,7 +41,7 @@ pub enum Form {
 }
 
 /// What is listed of a tag: the lengths in bytes and the form of its values.
-#[derive(Clone, Copy)]
+#[derive(Clone, Copy, Debug, PartialEq, Eq)]
 pub struct Rule {
     pub tag: Tag,
     pub least: u8,

@@ -3,3 +3,4 @@ pub mod Texts
 pub mod Amounts
 pub mod Views
 pub mod Identifiers
+pub mod Kinds

@@ -10,7 +10,7 @@ const LEAST: u64 = 1;
 const GREATEST: u64 = 999_999_999_999_999;
 
 /// An amount of 1 to 999,999,999,999,999 kopecks.
-#[derive(Clone, Copy)]
+#[derive(Clone, Copy, PartialEq, Eq)]
 pub struct Amount {
     pub kopecks: u64,
     ghost fit: { amount kopecks ≡ true },

@@ -19,7 +19,7 @@ const DATE: usize = 6;
 const SERIAL: usize = 14;
 
 /// An identifier: a member's code, a date, and six characters, each a capital letter or a digit.
-#[derive(Clone, Copy)]
+#[derive(Clone, Copy, PartialEq, Eq)]
 pub struct Identifier {
     pub bytes: [u8; LENGTH],
     ghost formed: { identifier bytes ≡ true },

@@ -6,6 +6,7 @@
 
 pub mod amount;
 pub mod identifier;
+pub mod kind;
 pub mod member_code;
 pub mod reason_code;
 pub mod status_code;

@@ -6,7 +6,7 @@ ghost use Rattle.values.specs.Codes.{member_code, read_member_code};
 use octets::{Alphabet, read_exactly};
 
 /// The code of a member: six ASCII digits.
-#[derive(Clone, Copy)]
+#[derive(Clone, Copy, PartialEq, Eq)]
 pub struct MemberCode {
     pub bytes: [u8; 6],
     ghost formed: { member_code bytes ≡ true },

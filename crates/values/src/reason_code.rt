@@ -6,7 +6,7 @@ ghost use Rattle.values.specs.Codes.{reason, read_reason};
 use octets::{Alphabet, read_exactly};
 
 /// The reason of a transaction: four characters, each a capital letter or a digit.
-#[derive(Clone, Copy)]
+#[derive(Clone, Copy, PartialEq, Eq)]
 pub struct ReasonCode {
     pub bytes: [u8; 4],
     ghost formed: { reason bytes ≡ true },

@@ -6,7 +6,7 @@ ghost use Rattle.values.specs.Codes.{status, read_status};
 use octets::{Alphabet, read_exactly};
 
 /// The status of a transaction: four characters, each a capital letter or a digit.
-#[derive(Clone, Copy)]
+#[derive(Clone, Copy, PartialEq, Eq)]
 pub struct StatusCode {
     pub bytes: [u8; 4],
     ghost formed: { status bytes ≡ true },

@@ -6,7 +6,7 @@ ghost use Rattle.values.specs.Texts.{padded, printed, read_printed};
 use octets::Alphabet;
 
 /// A text of 1 to `W` printable ASCII characters. The bytes behind it are zeros, so that equal texts are equal values.
-#[derive(Clone, Copy)]
+#[derive(Clone, Copy, PartialEq, Eq)]
 pub struct PrintedText<const W: usize> {
     bytes: [u8; W],
     len: usize,

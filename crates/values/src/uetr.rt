@@ -12,7 +12,7 @@ const LENGTH: usize = 16;
 const NIL: [u8; LENGTH] = [0; LENGTH];
 
 /// A unique end-to-end transaction reference: 16 bytes, not all zero.
-#[derive(Clone, Copy)]
+#[derive(Clone, Copy, PartialEq, Eq)]
 pub struct Uetr {
     pub bytes: [u8; LENGTH],
     ghost formed: { uetr bytes ≡ true },
