@@ -14,6 +14,9 @@ const FIRST_YEAR: u16 = 2000;
 /// The last year of which a date may be.
 const LAST_YEAR: u16 = 2099;
 
+/// How many months a year has.
+const MONTHS: u8 = 12;
+
 /// Whether the year has a 29 February.
 fn is_leap(year: u16) -> bool
     ensures { result ≡ leap_year year }
@@ -53,12 +56,9 @@ impl Date {
     pub(crate) fn new(year: u16, month: u8, day: u8) -> Option<Date>
         ensures { option_map view result ≡ real_only (date year month day) }
     {
-        if FIRST_YEAR <= year
-            && year <= LAST_YEAR
-            && 1 <= month
-            && month <= 12
-            && 1 <= day
-            && day <= month_length(year, month)
+        if (FIRST_YEAR..=LAST_YEAR).contains(&year)
+            && (1..=MONTHS).contains(&month)
+            && (1..=month_length(year, month)).contains(&day)
         {
             Some(Date { year, month, day })
         } else {
@@ -101,13 +101,7 @@ impl Date {
         ensures value { result ≡ earlier (view self.now) (view other.now) }
         ensures one { OneUnlessEarlier (view self.now) (view other.now) }
     {
-        if self.year != other.year {
-            self.year < other.year
-        } else if self.month != other.month {
-            self.month < other.month
-        } else {
-            self.day < other.day
-        }
+        self < other
     }
 
     /// The day before, which only 1 January 2000 does not have: the greatest of the dates before it.
@@ -115,23 +109,24 @@ impl Date {
         ensures value { option_map view result ≡ day_before (view self.now) }
         ensures greatest { GreatestBefore (view self.now) (option_map view result) }
     {
-        if self.day > 1 {
+        let Date { year, month, day } = *self;
+        if day > 1 {
             Some(Date {
-                year: self.year,
-                month: self.month,
-                day: self.day - 1,
-            })
-        } else if self.month > 1 {
-            let month = self.month - 1;
-            Some(Date {
-                year: self.year,
+                year,
                 month,
-                day: month_length(self.year, month),
+                day: day - 1,
             })
-        } else if self.year > FIRST_YEAR {
+        } else if month > 1 {
+            let before = month - 1;
             Some(Date {
-                year: self.year - 1,
-                month: 12,
+                year,
+                month: before,
+                day: month_length(year, before),
+            })
+        } else if year > FIRST_YEAR {
+            Some(Date {
+                year: year - 1,
+                month: MONTHS,
                 day: 31,
             })
         } else {

@@ -19,15 +19,6 @@ every_at test [] i h e = absurd (not-suc-le-zero h)
 every_at test (b ∷ bs) zero h e = (and_parts (test b) (every test bs) e).0
 every_at test (b ∷ bs) (suc i) h e = every_at test bs i (omega arith) (and_parts (test b) (every test bs) e).1
 
-module _ (test : ℕ → Bool) (bs : List ℕ) (i : ℕ) (h : i < length bs) where
-  -- the test fails of the byte at i, so it fails of what is left
-  pub every_stops : test (get_or bs i 0) ≡ false → every test (drop i bs) ≡ false
-  every_stops e = at_drop_more (every test) bs i 0 h ∙ ap (λ x. x && every test (drop (i + 1) bs)) e
-
-  -- the test holds of the byte at i, so the bytes behind it decide
-  pub every_goes_on : test (get_or bs i 0) ≡ true → every test (drop i bs) ≡ every test (drop (i + 1) bs)
-  every_goes_on e = at_drop_more (every test) bs i 0 h ∙ ap (λ x. x && every test (drop (i + 1) bs)) e
-
 -- what is kept is fit, and the bytes as they were
 pub kept-some : (fit : Bool) (bs xs : List ℕ) → Some xs ≡ kept fit bs → (fit ≡ true) × (xs ≡ bs)
 kept-some true bs xs e = (refl, cc)

@@ -1,5 +1,6 @@
 -- Bytes, and the characters that they stand for.
 use Rattle.std.specs.Prelude.{ℕ, Bool, true, false, cond, ◌&&◌, ◌||◌, List, [], ◌∷◌, Some, None, Option, ◌==◌, nat_le}
+use Rattle.std.specs.List.{list_all}
 
 -- two byte strings are equal: equally long, with equal bytes at equal places
 abbrev pub same_bytes : List ℕ → List ℕ → Bool
@@ -22,8 +23,7 @@ is_printable b = nat_le 32 b && nat_le b 126
 
 -- the test holds of each byte
 abbrev pub every : (ℕ → Bool) → List ℕ → Bool
-every test [] = true
-every test (b ∷ bs) = test b && every test bs
+every test bs = list_all test bs
 
 -- what is read from bytes: the bytes themselves where they are fit, else nothing
 abbrev pub kept : Bool → List ℕ → Option (List ℕ)

@@ -26,19 +26,11 @@ impl Alphabet {
     pub fn admits(self, byte: u8) -> bool
         ensures { result ≡ admitted self byte }
     {
-        match self {
-            Alphabet::Digits => match byte as char {
-                '0'..='9' => true,
-                _ => false,
-            },
-            Alphabet::CapitalsAndDigits => match byte as char {
-                'A'..='Z' | '0'..='9' => true,
-                _ => false,
-            },
-            Alphabet::Printable => match byte as char {
-                ' '..='~' => true,
-                _ => false,
-            },
+        match (self, byte as char) {
+            (Alphabet::Digits, '0'..='9') => true,
+            (Alphabet::CapitalsAndDigits, 'A'..='Z' | '0'..='9') => true,
+            (Alphabet::Printable, ' '..='~') => true,
+            _ => false,
         }
     }
 
@@ -46,12 +38,7 @@ impl Alphabet {
     pub fn admits_all(self, bytes: &[u8]) -> bool
         ensures { result ≡ every (admitted self) bytes.now }
     {
-        for byte in bytes {
-            if !self.admits(*byte) {
-                return false;
-            }
-        }
-        true
+        bytes.iter().all(|byte| self.admits(*byte))
     }
 }
 
@@ -59,8 +46,6 @@ impl Alphabet {
 pub fn read_exactly<const N: usize>(alphabet: Alphabet, bytes: &[u8]) -> Option<[u8; N]>
     ensures { result ≡ kept (length bytes.now == N && every (admitted alphabet) bytes.now) bytes.now }
 {
-    match <[u8; N]>::try_from(bytes) {
-        Ok(array) if alphabet.admits_all(bytes) => Some(array),
-        _ => None,
-    }
+    let array = <[u8; N]>::try_from(bytes).ok()?;
+    alphabet.admits_all(bytes).then_some(array)
 }

@@ -28,7 +28,7 @@ pub enum Tag {
 }
 
 /// What the bytes of a value are.
-#[derive(Clone, Copy, Debug, PartialEq, Eq)]
+#[derive(Clone, Copy)]
 pub enum Form {
     /// A reference, compared as a whole.
     Identifier,
@@ -41,7 +41,7 @@ pub enum Form {
 }
 
 /// What is listed of a tag: the lengths in bytes and the form of its values.
-#[derive(Clone, Copy, Debug, PartialEq, Eq)]
+#[derive(Clone, Copy)]
 pub struct Rule {
     pub tag: Tag,
     pub least: u8,

@@ -7,48 +7,48 @@ use Rattle.dates.proofs.date.Date.day_before.Goals as goal
 pub invariant_of-result : goal.invariant_of-result
 invariant_of-result c =
     let d = view c.args.self.now in
-    record { real = (within_month d (real_parts d c.args.self.now.real) c.if-self-gt1.true).0 }
+    record { real = (within_month d (real_parts d c.args.self.now.real) c.if-day-gt1.true).0 }
 
-pub invariant_of-result-then-self-gt1-2 : goal.invariant_of-result-then-self-gt1-2
-invariant_of-result-then-self-gt1-2 c =
+pub invariant_of-result-then-month-gt1 : goal.invariant_of-result-then-month-gt1
+invariant_of-result-then-month-gt1 c =
     let d = view c.args.self.now in
-    let p = (month_back d (real_parts d c.args.self.now.real) c.if-self-gt1.false c.if-self-gt1-2.true).0 in
+    let p = (month_back d (real_parts d c.args.self.now.real) c.if-day-gt1.false c.if-month-gt1.true).0 in
     record { real = rw c.month_length.ensures p }
 
-pub invariant_of-result-then-self-gt-FIRST_YEAR : goal.invariant_of-result-then-self-gt-FIRST_YEAR
-invariant_of-result-then-self-gt-FIRST_YEAR c =
+pub invariant_of-result-then-year-gt-FIRST_YEAR : goal.invariant_of-result-then-year-gt-FIRST_YEAR
+invariant_of-result-then-year-gt-FIRST_YEAR c =
     let d = view c.args.self.now in
-    record { real = (year_back d (real_parts d c.args.self.now.real) c.if-self-gt1.false c.if-self-gt1-2.false c.if-self-gt-FIRST_YEAR.true).0 }
+    record { real = (year_back d (real_parts d c.args.self.now.real) c.if-day-gt1.false c.if-month-gt1.false c.if-year-gt-FIRST_YEAR.true).0 }
 
-pub returns-then-self-gt1 : goal.returns-then-self-gt1
-returns-then-self-gt1 c =
+pub returns-then-day-gt1 : goal.returns-then-day-gt1
+returns-then-day-gt1 c =
     let d = view c.args.self.now in
     record {
-      value = sym (day_before_within d c.if-self-gt1.true);
-      greatest = within_month d (real_parts d c.args.self.now.real) c.if-self-gt1.true;
+      value = sym (day_before_within d c.if-day-gt1.true);
+      greatest = within_month d (real_parts d c.args.self.now.real) c.if-day-gt1.true;
     }
 
-pub returns-then-self-gt1-2 : goal.returns-then-self-gt1-2
-returns-then-self-gt1-2 c =
+pub returns-then-month-gt1 : goal.returns-then-month-gt1
+returns-then-month-gt1 c =
     let d = view c.args.self.now in
     let e = ap (λ n. Some (date d.year (d.month - 1) n)) c.month_length.ensures in
     record {
-      value = e ∙ sym (day_before_month d c.if-self-gt1.false c.if-self-gt1-2.true);
-      greatest = subst (GreatestBefore d) (sym e) (month_back d (real_parts d c.args.self.now.real) c.if-self-gt1.false c.if-self-gt1-2.true);
+      value = e ∙ sym (day_before_month d c.if-day-gt1.false c.if-month-gt1.true);
+      greatest = subst (GreatestBefore d) (sym e) (month_back d (real_parts d c.args.self.now.real) c.if-day-gt1.false c.if-month-gt1.true);
     }
 
-pub returns-then-self-gt-FIRST_YEAR : goal.returns-then-self-gt-FIRST_YEAR
-returns-then-self-gt-FIRST_YEAR c =
+pub returns-then-year-gt-FIRST_YEAR : goal.returns-then-year-gt-FIRST_YEAR
+returns-then-year-gt-FIRST_YEAR c =
     let d = view c.args.self.now in
     record {
-      value = sym (day_before_year d c.if-self-gt1.false c.if-self-gt1-2.false c.if-self-gt-FIRST_YEAR.true);
-      greatest = year_back d (real_parts d c.args.self.now.real) c.if-self-gt1.false c.if-self-gt1-2.false c.if-self-gt-FIRST_YEAR.true;
+      value = sym (day_before_year d c.if-day-gt1.false c.if-month-gt1.false c.if-year-gt-FIRST_YEAR.true);
+      greatest = year_back d (real_parts d c.args.self.now.real) c.if-day-gt1.false c.if-month-gt1.false c.if-year-gt-FIRST_YEAR.true;
     }
 
-pub returns-else-self-gt-FIRST_YEAR : goal.returns-else-self-gt-FIRST_YEAR
-returns-else-self-gt-FIRST_YEAR c =
+pub returns-else-year-gt-FIRST_YEAR : goal.returns-else-year-gt-FIRST_YEAR
+returns-else-year-gt-FIRST_YEAR c =
     let d = view c.args.self.now in
     record {
-      value = sym (day_before_none d c.if-self-gt1.false c.if-self-gt1-2.false c.if-self-gt-FIRST_YEAR.false);
-      greatest = none_before d (real_parts d c.args.self.now.real) c.if-self-gt1.false c.if-self-gt1-2.false c.if-self-gt-FIRST_YEAR.false;
+      value = sym (day_before_none d c.if-day-gt1.false c.if-month-gt1.false c.if-year-gt-FIRST_YEAR.false);
+      greatest = none_before d (real_parts d c.args.self.now.real) c.if-day-gt1.false c.if-month-gt1.false c.if-year-gt-FIRST_YEAR.false;
     }
