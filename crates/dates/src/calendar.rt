@@ -2,10 +2,11 @@
 ghost use Rattle.std.specs.Prelude.{◌≡◌, ◌+◌, ◌-◌, ◌*◌, true, IfSome, Some};
 ghost use Rattle.std.specs.Option.{option_map};
 ghost use Rattle.octets.specs.Bytes.{is_digit};
-ghost use Rattle.dates.specs.Dates.{date, leap_year, month_length, real_only, read_date, digit, date_digits, earlier, OneUnlessEarlier, day_before, GreatestBefore};
+ghost use Rattle.dates.specs.Dates.{DateValue, date, leap_year, month_length, real_only, read_date, digit, date_digits, earlier, OneUnlessEarlier, day_before, GreatestBefore};
 ghost use Rattle.dates.specs.Views.{view};
 
 use crate::date::Date;
+use octets::readable::Readable;
 use octets::{Alphabet, read_exactly};
 
 /// The first year of which a date may be.
@@ -51,6 +52,24 @@ fn last_digit(number: u16) -> u8
     b'0' + (number % 10) as u8
 }
 
+impl Readable for Date {
+    ghost Meaning = { DateValue };
+
+    ghost meaning = { view };
+
+    ghost reading = { read_date };
+
+    ghost writing = { date_digits };
+
+    /// The date that eight digits write: four of the year, two of the month, two of the day.
+    fn read(bytes: &[u8]) -> Option<Date> {
+        let digits: [u8; 8] = read_exactly(Alphabet::Digits, bytes)?;
+        let [y1, y2, y3, y4, m1, m2, d1, d2] = digits;
+        let year = two_digits(y1, y2) as u16 * 100 + two_digits(y3, y4) as u16;
+        Date::new(year, two_digits(m1, m2), two_digits(d1, d2))
+    }
+}
+
 impl Date {
     /// The date of this year, month and day, if it is real.
     pub(crate) fn new(year: u16, month: u8, day: u8) -> Option<Date>
@@ -64,17 +83,6 @@ impl Date {
         } else {
             None
         }
-    }
-
-    /// The date that eight digits write: four of the year, two of the month, two of the day. No other bytes write it.
-    pub fn read(bytes: &[u8]) -> Option<Date>
-        ensures value { option_map view result ≡ read_date bytes.now }
-        ensures form { IfSome result (λ d. date_digits (view d) ≡ bytes.now) }
-    {
-        let digits: [u8; 8] = read_exactly(Alphabet::Digits, bytes)?;
-        let [y1, y2, y3, y4, m1, m2, d1, d2] = digits;
-        let year = two_digits(y1, y2) as u16 * 100 + two_digits(y3, y4) as u16;
-        Date::new(year, two_digits(m1, m2), two_digits(d1, d2))
     }
 
     /// The eight digits that write it. Read, they give the date again.

@@ -1,5 +1,5 @@
 -- Bytes, and the characters that they stand for.
-use Rattle.std.specs.Prelude.{ℕ, Bool, true, false, cond, ◌&&◌, ◌||◌, List, [], ◌∷◌, Some, None, Option, ◌==◌, nat_le}
+use Rattle.std.specs.Prelude.{ℕ, ◌+◌, ◌*◌, Bool, true, false, cond, ◌&&◌, ◌||◌, List, [], ◌∷◌, Some, None, Option, ◌==◌, nat_le}
 use Rattle.std.specs.List.{list_all}
 
 -- two byte strings are equal: equally long, with equal bytes at equal places
@@ -28,3 +28,16 @@ every test bs = list_all test bs
 -- what is read from bytes: the bytes themselves where they are fit, else nothing
 abbrev pub kept : Bool → List ℕ → Option (List ℕ)
 kept fit bs = cond fit (Some bs) None
+
+-- the number that one byte writes
+abbrev pub read_byte : List ℕ → Option ℕ
+read_byte [] = None
+read_byte (n ∷ []) = Some n
+read_byte (n ∷ m ∷ ns) = None
+
+-- the number that two bytes write, the high byte first
+abbrev pub read_pair : List ℕ → Option ℕ
+read_pair [] = None
+read_pair (h ∷ []) = None
+read_pair (h ∷ l ∷ []) = Some (h * 256 + l)
+read_pair (h ∷ l ∷ n ∷ ns) = None

@@ -1,6 +1,8 @@
 //! Bytes: comparing them, and judging them by the characters that they stand for.
 #![tactic(auto)]
 
+pub mod readable;
+
 ghost use Rattle.std.specs.Prelude.{◌≡◌, ◌&&◌, length, Decides, ◌==◌};
 ghost use Rattle.octets.specs.Bytes.{same_bytes, every, kept};
 ghost use Rattle.octets.specs.Alphabet.{admitted};

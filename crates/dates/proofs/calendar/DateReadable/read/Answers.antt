@@ -6,8 +6,8 @@ use Rattle.dates.specs.Dates.{date, date_of, real_only, read_date}
 use Rattle.dates.specs.Views.{view}
 use Rattle.octets.proofs.Parts.{every_at, kept-some, kept-none}
 use Rattle.dates.proofs.Digits.{date_places, read_digits, form_of_read}
-use Rattle.dates.proofs.date.Date.read.Goals as goal
-use Rattle.dates.proofs.date.Date.read.Goals.{In_ok-digits}
+use Rattle.dates.proofs.calendar.DateReadable.read.Goals as goal
+use Rattle.dates.proofs.calendar.DateReadable.read.Goals.{In_ok-digits}
 
 digit_at : (c : In_ok-digits) (i : ℕ) → i < 8 → is_digit (get_or c.in_ok-digits.digits i 0) ≡ true
 digit_at c i h =
