@@ -181,12 +181,7 @@ pub fn rule_of(number: u8) -> Option<Rule>
     ensures value { result ≡ rule_of number }
     ensures numbered { IfSome result (λ rule. number_of rule.tag ≡ number) }
 {
-    let place = number as usize;
-    if place < RULES.len() {
-        RULES[place]
-    } else {
-        None
-    }
+    RULES.get(usize::from(number)).copied().flatten()
 }
 
 impl Tag {
@@ -203,6 +198,6 @@ impl Rule {
     pub fn admits(&self, len: usize) -> bool
         ensures { result ≡ admits self.now len }
     {
-        self.least as usize <= len && len <= self.most as usize
+        (usize::from(self.least)..=usize::from(self.most)).contains(&len)
     }
 }

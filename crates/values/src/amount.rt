@@ -1,7 +1,9 @@
 //! Amounts of money.
-ghost use Rattle.std.specs.Prelude.{◌≡◌, true, IfSome, Some};
+ghost use Rattle.std.specs.Prelude.{◌≡◌, ℕ, true, Some};
 ghost use Rattle.std.specs.Option.{option_map};
 ghost use Rattle.values.specs.Amounts.{amount, amount_of, read_amount, amount_bytes};
+
+use octets::readable::Readable;
 
 /// The least amount, in kopecks.
 const LEAST: u64 = 1;
@@ -16,26 +18,31 @@ pub struct Amount {
     ghost fit: { amount kopecks ≡ true },
 }
 
+impl Readable for Amount {
+    ghost Meaning = { ℕ };
+
+    ghost meaning = { λ sum. sum.kopecks };
+
+    ghost reading = { read_amount };
+
+    ghost writing = { amount_bytes };
+
+    /// The amount that eight bytes write, the high byte first.
+    fn read(bytes: &[u8]) -> Option<Amount> {
+        let array = <[u8; 8]>::try_from(bytes).ok()?;
+        Amount::new(u64::from_be_bytes(array))
+    }
+}
+
 impl Amount {
     /// The amount of so many kopecks.
     pub fn new(kopecks: u64) -> Option<Amount>
         ensures { option_map (λ sum. sum.kopecks) result ≡ amount_of kopecks }
     {
-        if LEAST <= kopecks && kopecks <= GREATEST {
+        if (LEAST..=GREATEST).contains(&kopecks) {
             Some(Amount { kopecks })
         } else {
             None
-        }
-    }
-
-    /// The amount that eight bytes write, the high byte first. No other bytes write it.
-    pub fn read(bytes: &[u8]) -> Option<Amount>
-        ensures value { option_map (λ sum. sum.kopecks) result ≡ read_amount bytes.now }
-        ensures form { IfSome result (λ sum. amount_bytes sum.kopecks ≡ bytes.now) }
-    {
-        match <[u8; 8]>::try_from(bytes) {
-            Ok(array) => Amount::new(u64::from_be_bytes(array)),
-            Err(_) => None,
         }
     }
 

@@ -1,12 +1,12 @@
 //! The identifiers of messages and payments.
-ghost use Rattle.std.specs.Prelude.{◌≡◌, true, Some, Decides};
-ghost use Rattle.std.specs.Option.{option_map};
+ghost use Rattle.std.specs.Prelude.{◌≡◌, ℕ, List, true, Some, Decides};
 ghost use Rattle.dates.specs.Dates.{read_date};
 ghost use Rattle.values.specs.Identifiers.{date_part, identifier, read_identifier, begins_with, is_dated, suits};
 ghost use Rattle.dates.specs.Views.{view};
 
 use crate::member_code::MemberCode;
 use dates::date::Date;
+use octets::readable::Readable;
 use octets::{Alphabet, same_bytes};
 
 /// How many bytes an identifier has.
@@ -29,32 +29,39 @@ pub struct Identifier {
 fn is_formed(bytes: &[u8; LENGTH]) -> bool
     ensures { result ≡ identifier bytes.now }
 {
-    let code = MemberCode::read(&bytes[0..DATE]).is_some();
+    let code = MemberCode::read(&bytes[..DATE]).is_some();
     let date = Date::read(&bytes[DATE..SERIAL]).is_some();
-    let serial = Alphabet::CapitalsAndDigits.admits_all(&bytes[SERIAL..LENGTH]);
+    let serial = Alphabet::CapitalsAndDigits.admits_all(&bytes[SERIAL..]);
     code && date && serial
 }
 
-impl Identifier {
-    /// The identifier that the bytes are.
-    pub fn read(bytes: &[u8]) -> Option<Identifier>
-        ensures { option_map (λ id. id.bytes) result ≡ read_identifier bytes.now }
-    {
-        let Ok(array) = <[u8; LENGTH]>::try_from(bytes) else {
-            return None;
-        };
-        if !is_formed(&array) {
-            return None;
-        }
-        Some(Identifier { bytes: array })
-    }
+impl Readable for Identifier {
+    ghost Meaning = { List ℕ };
 
+    ghost meaning = { λ id. id.bytes };
+
+    ghost reading = { read_identifier };
+
+    ghost writing = { λ bytes. bytes };
+
+    /// The identifier that the bytes are.
+    fn read(bytes: &[u8]) -> Option<Identifier> {
+        let bytes = <[u8; LENGTH]>::try_from(bytes).ok()?;
+        if is_formed(&bytes) {
+            Some(Identifier { bytes })
+        } else {
+            None
+        }
+    }
+}
+
+impl Identifier {
     /// Whether it begins with the member's code, and so suits a sender with that code.
     pub fn begins_with(&self, code: &MemberCode) -> bool
         ensures value { result ≡ begins_with self.now.bytes code.now.bytes }
         ensures suits { result ≡ suits self.now.bytes code.now.bytes }
     {
-        same_bytes(&self.bytes[0..DATE], &code.bytes)
+        same_bytes(&self.bytes[..DATE], &code.bytes)
     }
 
     /// Whether it has this date behind the member's code.

@@ -1,8 +1,8 @@
 //! The code of a member.
-ghost use Rattle.std.specs.Prelude.{◌≡◌, true};
-ghost use Rattle.std.specs.Option.{option_map};
+ghost use Rattle.std.specs.Prelude.{◌≡◌, ℕ, List, true};
 ghost use Rattle.values.specs.Codes.{member_code, read_member_code};
 
+use octets::readable::Readable;
 use octets::{Alphabet, read_exactly};
 
 /// The code of a member: six ASCII digits.
@@ -12,11 +12,17 @@ pub struct MemberCode {
     ghost formed: { member_code bytes ≡ true },
 }
 
-impl MemberCode {
+impl Readable for MemberCode {
+    ghost Meaning = { List ℕ };
+
+    ghost meaning = { λ code. code.bytes };
+
+    ghost reading = { read_member_code };
+
+    ghost writing = { λ bytes. bytes };
+
     /// The code that the bytes are.
-    pub fn read(bytes: &[u8]) -> Option<MemberCode>
-        ensures { option_map (λ code. code.bytes) result ≡ read_member_code bytes.now }
-    {
+    fn read(bytes: &[u8]) -> Option<MemberCode> {
         let bytes = read_exactly(Alphabet::Digits, bytes)?;
         Some(MemberCode { bytes })
     }

@@ -1,8 +1,8 @@
 //! The code of a reason.
-ghost use Rattle.std.specs.Prelude.{◌≡◌, true};
-ghost use Rattle.std.specs.Option.{option_map};
+ghost use Rattle.std.specs.Prelude.{◌≡◌, ℕ, List, true};
 ghost use Rattle.values.specs.Codes.{reason, read_reason};
 
+use octets::readable::Readable;
 use octets::{Alphabet, read_exactly};
 
 /// The reason of a transaction: four characters, each a capital letter or a digit.
@@ -12,11 +12,17 @@ pub struct ReasonCode {
     ghost formed: { reason bytes ≡ true },
 }
 
-impl ReasonCode {
+impl Readable for ReasonCode {
+    ghost Meaning = { List ℕ };
+
+    ghost meaning = { λ code. code.bytes };
+
+    ghost reading = { read_reason };
+
+    ghost writing = { λ bytes. bytes };
+
     /// The reason that the bytes are.
-    pub fn read(bytes: &[u8]) -> Option<ReasonCode>
-        ensures { option_map (λ code. code.bytes) result ≡ read_reason bytes.now }
-    {
+    fn read(bytes: &[u8]) -> Option<ReasonCode> {
         let bytes = read_exactly(Alphabet::CapitalsAndDigits, bytes)?;
         Some(ReasonCode { bytes })
     }

@@ -1,8 +1,8 @@
 //! The code of a status.
-ghost use Rattle.std.specs.Prelude.{◌≡◌, true};
-ghost use Rattle.std.specs.Option.{option_map};
+ghost use Rattle.std.specs.Prelude.{◌≡◌, ℕ, List, true};
 ghost use Rattle.values.specs.Codes.{status, read_status};
 
+use octets::readable::Readable;
 use octets::{Alphabet, read_exactly};
 
 /// The status of a transaction: four characters, each a capital letter or a digit.
@@ -12,11 +12,17 @@ pub struct StatusCode {
     ghost formed: { status bytes ≡ true },
 }
 
-impl StatusCode {
+impl Readable for StatusCode {
+    ghost Meaning = { List ℕ };
+
+    ghost meaning = { λ code. code.bytes };
+
+    ghost reading = { read_status };
+
+    ghost writing = { λ bytes. bytes };
+
     /// The status that the bytes are.
-    pub fn read(bytes: &[u8]) -> Option<StatusCode>
-        ensures { option_map (λ code. code.bytes) result ≡ read_status bytes.now }
-    {
+    fn read(bytes: &[u8]) -> Option<StatusCode> {
         let bytes = read_exactly(Alphabet::CapitalsAndDigits, bytes)?;
         Some(StatusCode { bytes })
     }

@@ -1,9 +1,9 @@
 //! Texts of printable characters, of a length that varies.
-ghost use Rattle.std.specs.Prelude.{◌≡◌, ◌≤◌, true, length, take};
-ghost use Rattle.std.specs.Option.{option_map};
+ghost use Rattle.std.specs.Prelude.{◌≡◌, ◌≤◌, ℕ, List, true, length, take};
 ghost use Rattle.values.specs.Texts.{padded, printed, read_printed};
 
 use octets::Alphabet;
+use octets::readable::Readable;
 
 /// A text of 1 to `W` printable ASCII characters. The bytes behind it are zeros, so that equal texts are equal values.
 #[derive(Clone, Copy, PartialEq, Eq)]
@@ -25,34 +25,40 @@ fn pad<const W: usize>(bytes: &[u8]) -> [u8; W]
     ensures { result ≡ padded W bytes.now }
 {
     let mut array = [0; W];
-    for (place, byte) in bytes.iter().enumerate() {
-        array[place] = *byte;
-    }
+    array[..bytes.len()].copy_from_slice(bytes);
     array
 }
 
-impl<const W: usize> PrintedText<W> {
-    /// The text that the bytes are.
-    pub fn read(bytes: &[u8]) -> Option<PrintedText<W>>
-        ensures { option_map (λ text. take text.len text.bytes) result ≡ read_printed W bytes.now }
-    {
-        let len = bytes.len();
-        if len < 1 || len > W || !Alphabet::Printable.admits_all(bytes) {
-            return None;
-        }
-        Some(PrintedText {
-            bytes: pad(bytes),
-            len,
-        })
-    }
+impl<const W: usize> Readable for PrintedText<W> {
+    ghost Meaning = { List ℕ };
 
+    ghost meaning = { λ text. take text.len text.bytes };
+
+    ghost reading = { read_printed W };
+
+    ghost writing = { λ bytes. bytes };
+
+    /// The text that the bytes are.
+    fn read(bytes: &[u8]) -> Option<PrintedText<W>> {
+        let len = bytes.len();
+        if (1..=W).contains(&len) && Alphabet::Printable.admits_all(bytes) {
+            Some(PrintedText {
+                bytes: pad(bytes),
+                len,
+            })
+        } else {
+            None
+        }
+    }
+}
+
+impl<const W: usize> PrintedText<W> {
     /// The characters of the text, of which the value is made.
     pub fn bytes(&self) -> &[u8]
         ensures value { result.now ≡ take self.now.len self.now.bytes }
         ensures len { length result.now ≡ self.now.len }
         ensures rest { self.now.bytes ≡ padded W result.now }
     {
-        let whole = &self.bytes[..];
-        &whole[0..self.len]
+        &self.bytes[..self.len]
     }
 }

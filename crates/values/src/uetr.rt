@@ -1,8 +1,8 @@
 //! The reference that a transaction keeps from end to end.
-ghost use Rattle.std.specs.Prelude.{◌≡◌, true};
-ghost use Rattle.std.specs.Option.{option_map};
+ghost use Rattle.std.specs.Prelude.{◌≡◌, ℕ, List, true};
 ghost use Rattle.values.specs.Codes.{uetr, read_uetr};
 
+use octets::readable::Readable;
 use octets::same_bytes;
 
 /// How many bytes a reference has.
@@ -18,14 +18,22 @@ pub struct Uetr {
     ghost formed: { uetr bytes ≡ true },
 }
 
-impl Uetr {
+impl Readable for Uetr {
+    ghost Meaning = { List ℕ };
+
+    ghost meaning = { λ reference. reference.bytes };
+
+    ghost reading = { read_uetr };
+
+    ghost writing = { λ bytes. bytes };
+
     /// The reference that the bytes are.
-    pub fn read(bytes: &[u8]) -> Option<Uetr>
-        ensures { option_map (λ reference. reference.bytes) result ≡ read_uetr bytes.now }
-    {
-        match <[u8; LENGTH]>::try_from(bytes) {
-            Ok(array) if !same_bytes(bytes, &NIL) => Some(Uetr { bytes: array }),
-            _ => None,
+    fn read(bytes: &[u8]) -> Option<Uetr> {
+        let bytes = <[u8; LENGTH]>::try_from(bytes).ok()?;
+        if same_bytes(&bytes, &NIL) {
+            None
+        } else {
+            Some(Uetr { bytes })
         }
     }
 }

@@ -13,7 +13,7 @@ tested : (c : After-admits_all-serial) → identifier c.args.bytes.now ≡ (c.is
 tested c =
     let bs = c.args.bytes.now in
     let code : c.is_some-code.result ≡ member_code (take 6 bs) =
-    c.is_some-code.ensures ∙ sym (is_some_mapped (λ m. m.bytes) c.read.result) ∙ ap is_some c.read.ensures ∙ is_some_kept (member_code (take 6 bs)) (take 6 bs) in
+    c.is_some-code.ensures ∙ sym (is_some_mapped (λ m. m.bytes) c.read.result) ∙ ap is_some c.read.ensures.value ∙ is_some_kept (member_code (take 6 bs)) (take 6 bs) in
     let date : c.is_some-date.result ≡ is_some (read_date (take 8 (drop 6 bs))) =
     c.is_some-date.ensures ∙ sym (is_some_mapped view c.read-2.result) ∙ ap is_some c.read-2.ensures.value in
     by_parts bs c.told-bytes ∙ cc (code, date, c.admits_all-serial.ensures)

@@ -1,7 +1,7 @@
 use Rattle.std.proofs.Common.{◌≡◌, true, length, take, sym, ap, ◌∙◌, rules}
 use Rattle.values.specs.Texts.{padded, printed}
 use Rattle.values.proofs.Padding.{take-padded}
-use Rattle.values.proofs.text.PrintedText.read.Goals as goal
+use Rattle.values.proofs.text.PrintedTextReadable.read.Goals as goal
 
 pub invariant_of-result : goal.invariant_of-result
 invariant_of-result g c =
@@ -10,9 +10,9 @@ invariant_of-result g c =
     let f : printed g.row.W bs ≡ true = search rules in
     record { formed = (search rules, ap (printed g.row.W) e ∙ f, c.pad.ensures ∙ ap (padded g.row.W) (sym e)) }
 
-pub returns : goal.returns
-returns g c =
+pub returns-then-admits_all : goal.returns-then-admits_all
+returns-then-admits_all g c =
     let bs = c.args.bytes.now in
     let e : take (length bs) c.pad.result ≡ bs = ap (take (length bs)) c.pad.ensures ∙ take-padded g.row.W bs in
     let f : printed g.row.W bs ≡ true = search rules in
-    search rules
+    record { value = search rules; form = e }
