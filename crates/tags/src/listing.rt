@@ -181,7 +181,7 @@ pub fn rule_of(number: u8) -> Option<Rule>
     ensures value { result ≡ rule_of number }
     ensures numbered { IfSome result (λ rule. number_of rule.tag ≡ number) }
 {
-    RULES.get(usize::from(number)).copied().flatten()
+    *RULES.get(usize::from(number))?
 }
 
 impl Tag {
