@@ -6,11 +6,10 @@ ghost use Rattle.block.specs.Fields.{fields_of};
 ghost use Rattle.content.specs.Views.{original_view, purpose_view, header_view};
 ghost use Rattle.content.specs.Decoding.{original_in, purpose_in, header_in};
 
-use crate::fields::{creation_date, number};
 use dates::date::Date;
-use items::{byte, identifier, member_code};
-use message::shapes::Kind;
+use items::item;
 use tags::listing::Tag;
+use values::kind::Kind;
 use values::member_code::MemberCode;
 
 /// The original that a recall or an answer names: the number of its kind, and its identifier, neither of them judged.
@@ -49,9 +48,10 @@ pub struct Header {
 fn read_original(block: &[u8]) -> Option<Original>
     ensures { option_map original_view result ≡ original_in (fields_of block.now) }
 {
-    let kind = byte(block, Tag::OriginalKind)?;
-    let identifier = identifier(block, Tag::OriginalIdentifier)?;
-    Some(Original { kind, identifier })
+    Some(Original {
+        kind: item(block, Tag::OriginalKind)?,
+        identifier: item(block, Tag::OriginalIdentifier)?,
+    })
 }
 
 /// What a header of this kind says that the message is for.
@@ -60,21 +60,12 @@ fn read_purpose(kind: Kind, block: &[u8]) -> Option<Purpose>
 {
     match kind {
         Kind::Request => {
-            let debtor_agent = member_code(block, Tag::DebtorAgent)?;
+            let debtor_agent = item(block, Tag::DebtorAgent)?;
             Some(Purpose::Request { debtor_agent })
         }
-        Kind::Recall => {
-            let original = read_original(block)?;
-            Some(Purpose::Recall(original))
-        }
-        Kind::Report => {
-            let original = read_original(block)?;
-            Some(Purpose::Report(original))
-        }
-        Kind::Reply => {
-            let original = read_original(block)?;
-            Some(Purpose::Reply(original))
-        }
+        Kind::Recall => read_original(block).map(Purpose::Recall),
+        Kind::Report => read_original(block).map(Purpose::Report),
+        Kind::Reply => read_original(block).map(Purpose::Reply),
     }
 }
 
@@ -82,18 +73,12 @@ fn read_purpose(kind: Kind, block: &[u8]) -> Option<Purpose>
 pub(crate) fn read_header(kind: Kind, block: &[u8]) -> Option<Header>
     ensures { option_map header_view result ≡ header_in kind (fields_of block.now) }
 {
-    let identifier = identifier(block, Tag::Identifier)?;
-    let creation_date = creation_date(block)?;
-    let assigner = member_code(block, Tag::Assigner)?;
-    let assignee = member_code(block, Tag::Assignee)?;
-    let number = number(block)?;
-    let purpose = read_purpose(kind, block)?;
     Some(Header {
-        identifier,
-        creation_date,
-        assigner,
-        assignee,
-        number,
-        purpose,
+        identifier: item(block, Tag::Identifier)?,
+        creation_date: item(block, Tag::CreationDate)?,
+        assigner: item(block, Tag::Assigner)?,
+        assignee: item(block, Tag::Assignee)?,
+        number: item(block, Tag::NumberOfTransactions)?,
+        purpose: read_purpose(kind, block)?,
     })
 }

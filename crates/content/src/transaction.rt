@@ -6,11 +6,10 @@ ghost use Rattle.block.specs.Fields.{fields_of};
 ghost use Rattle.content.specs.Views.{detail_view, transaction_view};
 ghost use Rattle.content.specs.Decoding.{answer_in, detail_in, transaction_in};
 
-use crate::fields::{reason, status, text};
-use items::{amount, end_to_end, member_code, uetr};
-use message::shapes::Kind;
+use items::{item, optional_item};
 use tags::listing::Tag;
 use values::amount::Amount;
+use values::kind::Kind;
 use values::member_code::MemberCode;
 use values::reason_code::ReasonCode;
 use values::status_code::StatusCode;
@@ -49,13 +48,10 @@ pub struct Transaction {
 fn read_answer(block: &[u8]) -> Option<Detail>
     ensures { option_map detail_view result ≡ answer_in (fields_of block.now) }
 {
-    let status = status(block)?;
-    let reason = reason(block)?;
-    let text = text(block)?;
     Some(Detail::Answer {
-        status,
-        reason,
-        text,
+        status: item(block, Tag::Status)?,
+        reason: optional_item(block, Tag::Reason)?,
+        text: optional_item(block, Tag::Text)?,
     })
 }
 
@@ -65,15 +61,15 @@ fn read_detail(kind: Kind, block: &[u8]) -> Option<Detail>
 {
     match kind {
         Kind::Request => {
-            let amount = amount(block)?;
-            let creditor_agent = member_code(block, Tag::CreditorAgent)?;
+            let amount = item(block, Tag::Amount)?;
+            let creditor_agent = item(block, Tag::CreditorAgent)?;
             Some(Detail::Request {
                 amount,
                 creditor_agent,
             })
         }
         Kind::Recall => {
-            let amount = amount(block)?;
+            let amount = item(block, Tag::Amount)?;
             Some(Detail::Recall { amount })
         }
         Kind::Report | Kind::Reply => read_answer(block),
@@ -84,12 +80,9 @@ fn read_detail(kind: Kind, block: &[u8]) -> Option<Detail>
 pub(crate) fn read_transaction(kind: Kind, block: &[u8]) -> Option<Transaction>
     ensures { option_map transaction_view result ≡ transaction_in kind (fields_of block.now) }
 {
-    let uetr = uetr(block)?;
-    let end_to_end = end_to_end(block)?;
-    let detail = read_detail(kind, block)?;
     Some(Transaction {
-        uetr,
-        end_to_end,
-        detail,
+        uetr: item(block, Tag::Uetr)?,
+        end_to_end: item(block, Tag::EndToEnd)?,
+        detail: read_detail(kind, block)?,
     })
 }
