@@ -3,7 +3,7 @@ use Rattle.std.proofs.Common.{◌≡◌, ℕ, ◌+◌, List, [], ◌∷◌, map,
 use Rattle.std.specs.Option.{option_or}
 use Rattle.block.specs.Fields.{FieldValue}
 use Rattle.block.specs.Reading.{Reading, layout}
-use Rattle.message.specs.declared.shapes.Kind.{Kind}
+use Rattle.values.specs.declared.kind.Kind.{Kind}
 use Rattle.message.specs.declared.shapes.Slot.{Slot}
 use Rattle.message.specs.declared.refusal.Location.{Location}
 use Rattle.message.specs.declared.refusal.Layer.TheVariants.{Blocks, Fields}

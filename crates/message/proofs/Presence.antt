@@ -7,7 +7,7 @@ use Rattle.block.specs.Fields.{FieldValue, Legal, value_of}
 use Rattle.message.specs.declared.shapes.Need.{Need}
 use Rattle.message.specs.declared.shapes.Need.TheVariants.{Required, Optional}
 use Rattle.message.specs.declared.shapes.Slot.{Slot}
-use Rattle.message.specs.declared.shapes.Kind.{Kind}
+use Rattle.values.specs.declared.kind.Kind.{Kind}
 use Rattle.message.specs.Shapes.{shape, tag_fault, absent}
 use Rattle.message.specs.Messages.{role, tags_fault}
 use Rattle.message.specs.Fitness.{fits, field_fits, value_fault}

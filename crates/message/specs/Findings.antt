@@ -2,7 +2,7 @@
 use Rattle.std.specs.Prelude.{ℕ, ◌+◌, List, [], ◌∷◌, Some, None, Ok, Err, Option}
 use Rattle.std.specs.Option.{option_or}
 use Rattle.block.specs.Reading.{layout}
-use Rattle.message.specs.declared.shapes.Kind.{Kind}
+use Rattle.values.specs.declared.kind.Kind.{Kind}
 use Rattle.message.specs.declared.shapes.Slot.{Slot}
 use Rattle.message.specs.declared.scan.Report.{Report}
 use Rattle.message.specs.declared.scan.Report.TheVariants.{Broken, Laid}

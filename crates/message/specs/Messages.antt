@@ -7,14 +7,15 @@ use Rattle.tags.specs.Faults.{fault_place}
 use Rattle.block.specs.Cutting.{blocks_of}
 use Rattle.block.specs.Block.{checks, block_of}
 use Rattle.block.specs.Reading.{Reading, layout}
-use Rattle.message.specs.declared.shapes.Kind.{Kind}
+use Rattle.values.specs.declared.kind.Kind.{Kind}
 use Rattle.message.specs.declared.shapes.Role.{Role}
 use Rattle.message.specs.declared.shapes.Role.TheVariants.{Header, Transaction}
 use Rattle.message.specs.declared.refusal.Location.{Location}
 use Rattle.message.specs.declared.refusal.Layer.{Layer}
 use Rattle.message.specs.declared.refusal.Layer.TheVariants.{Blocks, Fields}
 use Rattle.message.specs.declared.refusal.Refusal.{Refusal}
-use Rattle.message.specs.Shapes.{kind_of, shape, tag_fault}
+use Rattle.values.specs.Kinds.{kind_of}
+use Rattle.message.specs.Shapes.{shape, tag_fault}
 use Rattle.message.specs.Fitness.{value_fault}
 
 -- the length of a message: 1 to 17 blocks

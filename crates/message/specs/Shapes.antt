@@ -1,31 +1,16 @@
--- The kinds of message, and the fields that their blocks have.
+-- The fields that the blocks of a message have, by its kind.
 use Rattle.std.specs.Prelude.{ℕ, cond, List, [], ◌∷◌, Some, None, Option, ◌==◌, nat_lt}
 use Rattle.tags.specs.declared.listing.Tag.{Tag}
 use Rattle.tags.specs.declared.listing.Tag.TheVariants as tag
 use Rattle.tags.specs.Tags.{number_of}
 use Rattle.block.specs.Fields.{FieldValue}
-use Rattle.message.specs.declared.shapes.Kind.{Kind}
-use Rattle.message.specs.declared.shapes.Kind.TheVariants.{Request, Report, Reply, Recall}
+use Rattle.values.specs.declared.kind.Kind.{Kind}
+use Rattle.values.specs.declared.kind.Kind.TheVariants.{Request, Report, Reply, Recall}
 use Rattle.message.specs.declared.shapes.Role.{Role}
 use Rattle.message.specs.declared.shapes.Role.TheVariants.{Header, Transaction}
 use Rattle.message.specs.declared.shapes.Need.{Need}
 use Rattle.message.specs.declared.shapes.Need.TheVariants.{Required, Optional}
 use Rattle.message.specs.declared.shapes.Slot.{Slot}
-
--- the kind that a number stands for: 13, 14, 29 or 56
-abbrev pub kind_of : ℕ → Option Kind
-kind_of n =
-    cond (n == 13) (Some Request)
-    (cond (n == 14) (Some Report)
-    (cond (n == 29) (Some Reply)
-    (cond (n == 56) (Some Recall) None)))
-
--- the number of a kind
-abbrev pub kind_number : Kind → ℕ
-kind_number Request = 13
-kind_number Report = 14
-kind_number Reply = 29
-kind_number Recall = 56
 
 -- fields that must stand, and fields that may
 abbrev pub required : Tag → Slot

@@ -6,9 +6,10 @@ ghost use Rattle.message.specs.Messages.{located, first_fault, check_fault};
 
 use crate::refusal::Location;
 use crate::scan::{Report, scan};
-use crate::shapes::{Kind, Role, Slot};
+use crate::shapes::{Role, Slot, shape};
 use block::check::has_check;
 use block::{BLOCK, BODY};
+use values::kind::Kind;
 
 /// The first fault of each sort, over all blocks.
 #[derive(Clone, Copy)]
@@ -36,11 +37,14 @@ fn slots_of(kind: Option<Kind>, block: u8) -> &'static [Slot]
     ensures { result.now ≡ slots_of kind block }
 {
     match kind {
-        Some(kind) => kind.shape(if block == 0 {
-            Role::Header
-        } else {
-            Role::Transaction
-        }),
+        Some(kind) => shape(
+            kind,
+            if block == 0 {
+                Role::Header
+            } else {
+                Role::Transaction
+            },
+        ),
         None => &[],
     }
 }

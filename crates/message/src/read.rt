@@ -6,10 +6,10 @@ ghost use Rattle.message.specs.Messages.{whole, kind_by, message_kind, read_mess
 
 use crate::findings::{Findings, gather, wrong_check};
 use crate::refusal::{Layer, Location, Refusal};
-use crate::shapes::Kind;
 use block::BLOCK;
 use block::reader::value;
 use tags::listing::Tag;
+use values::kind::Kind;
 
 /// The most bytes of a message: a header and sixteen transactions.
 pub const LONGEST: usize = 8704;
@@ -57,7 +57,7 @@ fn kind_by(value: Option<&[u8]>) -> Option<Kind>
     ensures { result ≡ kind_by (option_map (λ x. x.now) value.entry) }
 {
     match value {
-        Some([number]) => Kind::read(*number),
+        Some([number]) => Kind::try_from(*number).ok(),
         _ => None,
     }
 }

@@ -1,21 +1,9 @@
-//! The kinds of message, and which fields the blocks of each kind have.
+//! Which fields the blocks of a message have, by its kind.
 ghost use Rattle.std.specs.Prelude.{◌≡◌};
-ghost use Rattle.message.specs.Shapes.{kind_of, kind_number, shape};
+ghost use Rattle.message.specs.Shapes.{shape};
 
 use tags::listing::Tag;
-
-/// What a message is, by its number.
-#[derive(Clone, Copy)]
-pub enum Kind {
-    /// A request to pay (pain.013).
-    Request = 13,
-    /// A report on a request (pain.014).
-    Report = 14,
-    /// A reply to a recall (camt.029).
-    Reply = 29,
-    /// A recall of a payment or of a request (camt.056).
-    Recall = 56,
-}
+use values::kind::Kind;
 
 /// What a block is to its message.
 #[derive(Clone, Copy)]
@@ -161,37 +149,15 @@ const ANSWER_TRANSACTION: [Slot; 5] = [
     },
 ];
 
-impl Kind {
-    /// The kind that a number stands for.
-    pub fn read(number: u8) -> Option<Kind>
-        ensures { result ≡ kind_of number }
-    {
-        match number {
-            13 => Some(Kind::Request),
-            14 => Some(Kind::Report),
-            29 => Some(Kind::Reply),
-            56 => Some(Kind::Recall),
-            _ => None,
-        }
-    }
-
-    /// Its number.
-    pub fn number(self) -> u8
-        ensures { result ≡ kind_number self }
-    {
-        self as u8
-    }
-
-    /// The fields of its header or of its transactions, in the order of their tags.
-    pub(crate) fn shape(self, role: Role) -> &'static [Slot]
-        ensures { result.now ≡ shape self role }
-    {
-        match (self, role) {
-            (Kind::Request, Role::Header) => &REQUEST_HEADER,
-            (Kind::Request, Role::Transaction) => &REQUEST_TRANSACTION,
-            (Kind::Recall | Kind::Report | Kind::Reply, Role::Header) => &HEADER_WITH_ORIGINAL,
-            (Kind::Recall, Role::Transaction) => &RECALL_TRANSACTION,
-            (Kind::Report | Kind::Reply, Role::Transaction) => &ANSWER_TRANSACTION,
-        }
+/// The fields of the header or of the transactions of a message of this kind, in the order of their tags.
+pub(crate) fn shape(kind: Kind, role: Role) -> &'static [Slot]
+    ensures { result.now ≡ shape kind role }
+{
+    match (kind, role) {
+        (Kind::Request, Role::Header) => &REQUEST_HEADER,
+        (Kind::Request, Role::Transaction) => &REQUEST_TRANSACTION,
+        (Kind::Recall | Kind::Report | Kind::Reply, Role::Header) => &HEADER_WITH_ORIGINAL,
+        (Kind::Recall, Role::Transaction) => &RECALL_TRANSACTION,
+        (Kind::Report | Kind::Reply, Role::Transaction) => &ANSWER_TRANSACTION,
     }
 }
