@@ -6,3 +6,4 @@ pub mod Scanning
 pub mod Laws
 pub mod Chaining
 pub mod Cutting
+pub mod Chunks

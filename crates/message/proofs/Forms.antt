@@ -8,17 +8,16 @@ use Rattle.block.specs.Block.{checks, block_of}
 use Rattle.block.specs.Reading.{Reading, layout, reading}
 use Rattle.block.proofs.Laws.{reads_back, reading_parts, reading_holds, layout_fields_of}
 use Rattle.block.proofs.Laying.{length-block_of}
-use Rattle.message.specs.declared.refusal.Location.{Location}
-use Rattle.message.specs.declared.refusal.Layer.{Layer}
-use Rattle.message.specs.declared.refusal.Layer.TheVariants.{Blocks, Fields}
+use Rattle.message.specs.declared.refusal.Refusal.{Refusal}
+use Rattle.message.specs.declared.refusal.Refusal.TheVariants.{NotWhole}
 use Rattle.block.specs.Cutting.{blocks, blocks_of}
-use Rattle.message.specs.Messages.{MessageReading, whole, held, first_fault, check_fault, broken_at, layout_fault, values_fault, kind_by, message_kind, kind_in, first_tags_fault, unless, judged_fields, block_fields, judged_blocks, read_message, written_as, AllLegal, WrittenReadsBack, OnlyMessage}
+use Rattle.message.specs.Messages.{MessageReading, Location, whole, held, first_fault, check_fault, broken_at, layout_fault, values_fault, kind_by, message_kind, kind_in, first_tags_fault, wrong_check, broken_layout, misplaced_tag, unfit_value, unless, judged_fields, block_fields, judged_blocks, read_message, written_as, AllLegal, WrittenReadsBack, OnlyMessage}
 use Rattle.block.proofs.Cutting.{blocks_of-more}
 use Rattle.message.proofs.Gathering.{located_none}
 
 pub not_broken : (v : Reading) → broken_at v ≡ None → v ≡ Ok (held v)
 not_broken (Ok fs) e = refl
-not_broken (Err x) e = absurd (let z : ◌≡◌ {A = ℕ} 0 1 = cc in omega arith)
+not_broken (Err x) e = cc
 
 checked : (b : List ℕ) → check_fault 0 b ≡ None → checks b ≡ true
 checked b e =
@@ -75,21 +74,21 @@ blocks_form (suc n) k xs h e c l =
     ∙ ap (λ x. block_of (held (layout b)) ++ x) (blocks_form n (k + 1) (drop 512 xs) (drop_bytes 512 xs h) (omega (arith, e, length-drop 512 xs)) p.1 q.1)
 
 -- what is not refused was found without a fault
-pub unless_ok : (o : Option Location) (number : ℕ) (layer : Layer) (r : MessageReading) (fss : List (List FieldValue)) → unless o number layer r ≡ Ok fss → (o ≡ None) × (r ≡ Ok fss)
-unless_ok None number layer r fss e = (refl, e)
-unless_ok (Some x) number layer r fss e = absurd (let z : ◌≡◌ {A = ℕ} 0 1 = cc in omega arith)
+pub unless_ok : (o : Option Location) (refusal : Location → Refusal) (r : MessageReading) (fss : List (List FieldValue)) → unless o refusal r ≡ Ok fss → (o ≡ None) × (r ≡ Ok fss)
+unless_ok None refusal r fss e = (refl, e)
+unless_ok (Some x) refusal r fss e = cc
 
 fields_ok : (fss gss : List (List FieldValue)) → judged_fields fss ≡ Ok gss → fss ≡ gss
 fields_ok fss gss e =
-    let a = unless_ok (first_tags_fault (kind_in fss) fss) 4 Fields _ gss e in
-    let b = unless_ok (first_fault values_fault 0 fss) 5 Fields (Ok fss) gss a.1 in
+    let a = unless_ok (first_tags_fault (kind_in fss) fss) misplaced_tag _ gss e in
+    let b = unless_ok (first_fault values_fault 0 fss) unfit_value (Ok fss) gss a.1 in
     let q = b.1 in cc
 
 read_whole : (xs : List ℕ) (fss : List (List FieldValue)) → read_message xs ≡ Ok fss → (whole xs ≡ true) × (judged_blocks (blocks_of xs) ≡ Ok fss)
 unfolding read_message
 read_whole xs fss e =
     ⊎_elim (λ (t : whole xs ≡ true). (t, sym (cond-true (whole xs) _ _ t) ∙ e))
-    (λ (t : whole xs ≡ false). let q : Err (record { number = 1; layer = Blocks; block = 0; place = 0 }) ≡ Ok fss = rw t at e in absurd (let z : ◌≡◌ {A = ℕ} 0 1 = cc in omega arith))
+    (λ (t : whole xs ≡ false). let q : Err NotWhole ≡ Ok fss = rw t at e in absurd (let z : ◌≡◌ {A = ℕ} 0 1 = cc in omega arith))
     (cases_Bool (whole xs))
 
 -- what is known of bytes that read: they are n whole blocks, none with a fault of check or layout, and their fields are judged right
@@ -107,8 +106,8 @@ faultless xs fss e =
     let w = read_whole xs fss e in
     let p = whole_parts xs w.0 in
     let n = length xs / 512 in
-    let a = unless_ok (first_fault check_fault 0 (blocks n xs)) 2 Blocks _ fss w.1 in
-    let b = unless_ok (first_fault layout_fault 0 (blocks n xs)) 3 Blocks _ fss a.1 in
+    let a = unless_ok (first_fault check_fault 0 (blocks n xs)) wrong_check _ fss w.1 in
+    let b = unless_ok (first_fault layout_fault 0 (blocks n xs)) broken_layout _ fss a.1 in
     let f = fields_ok (map block_fields (blocks n xs)) fss b.1 in
     record { size = omega (arith, p.1); short = p.2; checks = a.0; layouts = b.0; fields = f; judged = sym (ap judged_fields f) ∙ b.1 }
 
@@ -161,7 +160,7 @@ written_reads_back fss a b l e =
     let bs : blocks_of xs ≡ map block_of fss = ap (λ m. blocks m xs) d ∙ blocks-written fss l in
     cond-true (whole xs) _ _ w
     ∙ ap judged_blocks bs
-    ∙ ap (λ o. unless o 2 Blocks (unless (first_fault layout_fault 0 (map block_of fss)) 3 Blocks (judged_fields (map block_fields (map block_of fss))))) (written_checks 0 fss l)
-    ∙ ap (λ o. unless o 3 Blocks (judged_fields (map block_fields (map block_of fss)))) (written_layouts 0 fss l)
+    ∙ ap (λ o. unless o wrong_check (unless (first_fault layout_fault 0 (map block_of fss)) broken_layout (judged_fields (map block_fields (map block_of fss))))) (written_checks 0 fss l)
+    ∙ ap (λ o. unless o broken_layout (judged_fields (map block_fields (map block_of fss)))) (written_layouts 0 fss l)
     ∙ ap judged_fields (written_fields fss l)
     ∙ e

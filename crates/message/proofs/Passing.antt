@@ -1,5 +1,5 @@
 -- A pass over a block's fields, one field further on.
-use Rattle.std.proofs.Common.{◌≡◌, ℕ, Bool, true, false, cond, List, ◌∷◌, Some, None, Ok, Err, Option, sym, refl, ap, ◌∙◌}
+use Rattle.std.proofs.Common.{◌≡◌, ℕ, Bool, true, false, cond, List, ◌∷◌, Some, None, Ok, Err, Option, sym, refl, ap, ap₂, ◌∙◌}
 use Rattle.std.specs.Option.{option_or}
 use Rattle.tags.specs.declared.listing.Tag.{Tag}
 use Rattle.tags.specs.declared.listing.Tag.TheVariants as tag
@@ -7,7 +7,7 @@ use Rattle.tags.specs.Tags.{number_of}
 use Rattle.block.specs.Fields.{FieldValue}
 use Rattle.block.specs.Reading.{Reading, led}
 use Rattle.message.specs.declared.shapes.Slot.{Slot}
-use Rattle.message.specs.declared.scan.Report.TheVariants.{Laid}
+use Rattle.message.specs.declared.scan.Found.{Found}
 use Rattle.message.specs.Shapes.{tag_fault}
 use Rattle.message.specs.Fitness.{fits, field_fits, value_fault}
 use Rattle.message.specs.Scanning.{reported}
@@ -43,14 +43,14 @@ unfit_first None false t after = refl
 unfit_first (Some n) b t after = refl
 
 -- one field further on: what its tag and its value come to, and the fields behind it
-pub reported_past : (t : Tag) (v : List ℕ) (tags values tags' values' : Option ℕ) (ss ss' : List Slot)
-    → ((fs : List FieldValue) → option_or tags (tag_fault ss (record { tag = number_of t; value = v } ∷ fs)) ≡ option_or tags' (tag_fault ss' fs))
-    → values' ≡ option_or values (cond (fits t v) None (Some (number_of t)))
-    → (r : Reading) → reported tags values ss (led (record { tag = number_of t; value = v }) r) ≡ reported tags' values' ss' r
-reported_past t v tags values tags' values' ss ss' a b (Err e) = refl
-reported_past t v tags values tags' values' ss ss' a b (Ok fs) =
-    let u : option_or values (value_fault (record { tag = number_of t; value = v } ∷ fs)) ≡ option_or values' (value_fault fs) =
-    ap (λ x. option_or values (cond x (value_fault fs) (Some (number_of t)))) (field_fits_by_tag t v)
-    ∙ unfit_first values (fits t v) (number_of t) (value_fault fs)
+pub reported_past : (t : Tag) (v : List ℕ) (found found' : Found) (ss ss' : List Slot)
+    → ((fs : List FieldValue) → option_or found.tags (tag_fault ss (record { tag = number_of t; value = v } ∷ fs)) ≡ option_or found'.tags (tag_fault ss' fs))
+    → found'.values ≡ option_or found.values (cond (fits t v) None (Some (number_of t)))
+    → (r : Reading) → reported found ss (led (record { tag = number_of t; value = v }) r) ≡ reported found' ss' r
+reported_past t v found found' ss ss' a b (Err e) = refl
+reported_past t v found found' ss ss' a b (Ok fs) =
+    let u : option_or found.values (value_fault (record { tag = number_of t; value = v } ∷ fs)) ≡ option_or found'.values (value_fault fs) =
+    ap (λ x. option_or found.values (cond x (value_fault fs) (Some (number_of t)))) (field_fits_by_tag t v)
+    ∙ unfit_first found.values (fits t v) (number_of t) (value_fault fs)
     ∙ ap (λ o. option_or o (value_fault fs)) (sym b) in
-    ap (λ x. Laid x (option_or values (value_fault (record { tag = number_of t; value = v } ∷ fs)))) (a fs) ∙ ap (Laid (option_or tags' (tag_fault ss' fs))) u
+    ap₂ (λ x y. Ok (record { tags = x; values = y })) (a fs) u

@@ -1,33 +1,28 @@
 -- The fields of a block without a fault: those that its shape requires are there, and each holds a fit value.
-use Rattle.std.proofs.Common.{◌≡◌, ℕ, Bool, true, false, cond, ◌&&◌, ◌||◌, eqb, ltb, ◌⊎◌, List, [], ◌∷◌, length, is_some, Some, None, Option, sym, refl, ap, ◌∙◌, subst, inl, inr, ⊎_elim, arith}
+use Rattle.std.proofs.Common.{◌≡◌, ℕ, Bool, true, false, cond, ◌&&◌, ◌||◌, eqb, ltb, ◌⊎◌, List, [], ◌∷◌, length, is_some, Some, None, Option, sym, refl, ap, ◌∙◌, subst, inl, inr, ⊎_elim}
 use Rattle.std.proofs.lemmas.Bool.{eq-eqb, eqb-true, and_parts, cases_Bool, cond-true, cond-false, false≢true}
 use Rattle.tags.specs.declared.listing.Tag.{Tag}
 use Rattle.tags.specs.Tags.{number_of, listed}
 use Rattle.block.specs.Fields.{FieldValue, Legal, value_of}
-use Rattle.message.specs.declared.shapes.Need.{Need}
-use Rattle.message.specs.declared.shapes.Need.TheVariants.{Required, Optional}
 use Rattle.message.specs.declared.shapes.Slot.{Slot}
-use Rattle.message.specs.declared.shapes.Kind.{Kind}
-use Rattle.message.specs.Shapes.{shape, tag_fault, absent}
+use Rattle.message.specs.declared.shapes.Slot.TheVariants.{Required, Optional}
+use Rattle.values.specs.declared.kind.Kind.{Kind}
+use Rattle.message.specs.Shapes.{slot_tag, is_required, shape, tag_fault, absent}
 use Rattle.message.specs.Messages.{role, tags_fault}
 use Rattle.message.specs.Fitness.{fits, field_fits, value_fault}
 use Rattle.message.proofs.Passing.{field_fits_by_tag}
 
-abbrev is_required : Need → Bool
-is_required Required = true
-is_required Optional = false
-
 -- one of the slots requires the tag with the number n
 abbrev demands : ℕ → List Slot → Bool
 demands n [] = false
-demands n (s ∷ ss) = is_required s.need && eqb (number_of s.tag) n || demands n ss
+demands n (s ∷ ss) = is_required s && eqb (number_of (slot_tag s)) n || demands n ss
 
-absent_none : (x : Need) (t : ℕ) (after : Option ℕ) → absent x t after ≡ None → (x ≡ Optional) × (after ≡ None)
-absent_none Required t after e = absurd (let z : ◌≡◌ {A = ℕ} 0 1 = cc in omega arith)
-absent_none Optional t after e = (refl, e)
+absent_none : (s : Slot) (after : Option ℕ) → absent s after ≡ None → (is_required s ≡ false) × (after ≡ None)
+absent_none (Required t) after e = cc
+absent_none (Optional t) after e = (refl, e)
 
-demands_later : (x : Need) (here later : Bool) → x ≡ Optional → (is_required x && here || later) ≡ true → later ≡ true
-demands_later x here later e d = sym (ap (λ y. is_required y && here || later) e) ∙ d
+demands_later : (x here later : Bool) → x ≡ false → (x && here || later) ≡ true → later ≡ true
+demands_later x here later e d = sym (ap (λ y. y && here || later) e) ∙ d
 
 kept-some : (b : Bool) (v : List ℕ) (o : Option (List ℕ)) → is_some o ≡ true → is_some (cond b (Some v) o) ≡ true
 kept-some true v o e = refl
@@ -41,27 +36,27 @@ or_either false y e = inr e
 with_value : (ss : List Slot) (fs : List FieldValue) (n : ℕ) → tag_fault ss fs ≡ None → demands n ss ≡ true → is_some (value_of n fs) ≡ true
 with_value [] fs n e d = absurd (false≢true d)
 with_value (s ∷ ss) [] n e d =
-    let a = absent_none s.need (number_of s.tag) (tag_fault ss []) e in
-    with_value ss [] n a.1 (demands_later s.need (eqb (number_of s.tag) n) (demands n ss) a.0 d)
+    let a = absent_none s (tag_fault ss []) e in
+    with_value ss [] n a.1 (demands_later (is_required s) (eqb (number_of (slot_tag s)) n) (demands n ss) a.0 d)
 with_value (s ∷ ss) (f ∷ fs) n e d =
-    let m = number_of s.tag in
-    let passed : Option ℕ = absent s.need m (tag_fault ss (f ∷ fs)) in
+    let m = number_of (slot_tag s) in
+    let passed : Option ℕ = absent s (tag_fault ss (f ∷ fs)) in
     let missed : Option ℕ = cond (ltb f.tag m) (Some f.tag) passed in
     ⊎_elim (λ (q : eqb f.tag m ≡ true).
-    ⊎_elim (λ (x : (is_required s.need && eqb m n) ≡ true).
-    let y : f.tag ≡ n = eqb-true f.tag m q ∙ eqb-true m n (and_parts (is_required s.need) (eqb m n) x).1 in
+    ⊎_elim (λ (x : (is_required s && eqb m n) ≡ true).
+    let y : f.tag ≡ n = eqb-true f.tag m q ∙ eqb-true m n (and_parts (is_required s) (eqb m n) x).1 in
     ap is_some (cond-true (eqb f.tag n) (Some f.value) (value_of n fs) (eq-eqb f.tag n y)))
     (λ (x : demands n ss ≡ true).
     kept-some (eqb f.tag n) f.value (value_of n fs) (with_value ss fs n (sym (cond-true (eqb f.tag m) (tag_fault ss fs) missed q) ∙ e) x))
-    (or_either (is_required s.need && eqb m n) (demands n ss) d))
+    (or_either (is_required s && eqb m n) (demands n ss) d))
     (λ (q : eqb f.tag m ≡ false).
     let r : missed ≡ None = sym (cond-false (eqb f.tag m) (tag_fault ss fs) missed q) ∙ e in
     ⊎_elim (λ (l : ltb f.tag m ≡ true).
     let z : Some f.tag ≡ None = sym (cond-true (ltb f.tag m) (Some f.tag) passed l) ∙ r in
-    absurd (let y : ◌≡◌ {A = ℕ} 0 1 = cc in omega arith))
+    cc)
     (λ (l : ltb f.tag m ≡ false).
-    let a = absent_none s.need m (tag_fault ss (f ∷ fs)) (sym (cond-false (ltb f.tag m) (Some f.tag) passed l) ∙ r) in
-    with_value ss (f ∷ fs) n a.1 (demands_later s.need (eqb m n) (demands n ss) a.0 d))
+    let a = absent_none s (tag_fault ss (f ∷ fs)) (sym (cond-false (ltb f.tag m) (Some f.tag) passed l) ∙ r) in
+    with_value ss (f ∷ fs) n a.1 (demands_later (is_required s) (eqb m n) (demands n ss) a.0 d))
     (cases_Bool (ltb f.tag m)))
     (cases_Bool (eqb f.tag m))
 
@@ -79,7 +74,7 @@ Fit t (Some v) = (fits t v ≡ true) × (listed (number_of t) (length v) ≡ tru
 
 fit_first : (b : Bool) (after : Option ℕ) (t : ℕ) → cond b after (Some t) ≡ None → (b ≡ true) × (after ≡ None)
 fit_first true after t e = (refl, e)
-fit_first false after t e = absurd (let z : ◌≡◌ {A = ℕ} 0 1 = cc in omega arith)
+fit_first false after t e = cc
 
 pub fit_value : (t : Tag) (p : ℕ) (fs : List FieldValue) → Legal p fs → value_fault fs ≡ None → Fit t (value_of (number_of t) fs)
 fit_value t p [] l e = tt

@@ -7,14 +7,13 @@ use Rattle.tags.specs.Faults.{fault_place}
 use Rattle.block.specs.Cutting.{blocks_of}
 use Rattle.block.specs.Block.{checks, block_of}
 use Rattle.block.specs.Reading.{Reading, layout}
-use Rattle.message.specs.declared.shapes.Kind.{Kind}
+use Rattle.values.specs.declared.kind.Kind.{Kind}
 use Rattle.message.specs.declared.shapes.Role.{Role}
 use Rattle.message.specs.declared.shapes.Role.TheVariants.{Header, Transaction}
-use Rattle.message.specs.declared.refusal.Location.{Location}
-use Rattle.message.specs.declared.refusal.Layer.{Layer}
-use Rattle.message.specs.declared.refusal.Layer.TheVariants.{Blocks, Fields}
 use Rattle.message.specs.declared.refusal.Refusal.{Refusal}
-use Rattle.message.specs.Shapes.{kind_of, shape, tag_fault}
+use Rattle.message.specs.declared.refusal.Refusal.TheVariants.{NotWhole, WrongCheck, BrokenLayout, MisplacedTag, UnfitValue}
+use Rattle.values.specs.Kinds.{kind_of}
+use Rattle.message.specs.Shapes.{shape, tag_fault}
 use Rattle.message.specs.Fitness.{value_fault}
 
 -- the length of a message: 1 to 17 blocks
@@ -29,6 +28,11 @@ role n = cond (n == 0) Header Transaction
 abbrev pub held : Reading → List FieldValue
 held (Ok fs) = fs
 held (Err e) = []
+
+-- where in a message a fault stands: the number of the block, and the byte or the tag
+pub record Location : Type 0 where
+  pub block : ℕ
+  pub place : ℕ
 
 -- where a fault of block n stands, if there is one
 abbrev pub located : ℕ → Option ℕ → Option Location
@@ -85,19 +89,29 @@ first_tags_fault (Some k) fss = first_fault (tags_fault k) 0 fss
 abbrev pub MessageReading : Type 0
 MessageReading = Result (List (List FieldValue)) Refusal
 
-abbrev pub refusal : ℕ → Layer → Location → Refusal
-refusal number layer at = record { number = number; layer = layer; block = at.block; place = at.place }
+-- the refusals by the checks 2 to 5, each at the first fault that the check finds
+abbrev pub wrong_check : Location → Refusal
+wrong_check at = WrongCheck at.block
+
+abbrev pub broken_layout : Location → Refusal
+broken_layout at = BrokenLayout at.block at.place
+
+abbrev pub misplaced_tag : Location → Refusal
+misplaced_tag at = MisplacedTag at.block at.place
+
+abbrev pub unfit_value : Location → Refusal
+unfit_value at = UnfitValue at.block at.place
 
 -- refused where a fault was found, else as the later checks say
-abbrev pub unless : Option Location → ℕ → Layer → MessageReading → MessageReading
-unless None number layer later = later
-unless (Some at) number layer later = Err (refusal number layer at)
+abbrev pub unless : Option Location → (Location → Refusal) → MessageReading → MessageReading
+unless None refusal later = later
+unless (Some at) refusal later = Err (refusal at)
 
 -- the checks 4 and 5, each over the fields of all blocks before the next
 abbrev pub judged_fields : List (List FieldValue) → MessageReading
 judged_fields fss =
-    unless (first_tags_fault (kind_in fss) fss) 4 Fields
-    (unless (first_fault values_fault 0 fss) 5 Fields (Ok fss))
+    unless (first_tags_fault (kind_in fss) fss) misplaced_tag
+    (unless (first_fault values_fault 0 fss) unfit_value (Ok fss))
 
 -- the fields of a block
 abbrev pub block_fields : List ℕ → List FieldValue
@@ -106,12 +120,12 @@ block_fields b = held (layout b)
 -- the checks 2 and 3, each over all blocks before the next, and then those of the fields
 abbrev pub judged_blocks : List (List ℕ) → MessageReading
 judged_blocks bs =
-    unless (first_fault check_fault 0 bs) 2 Blocks
-    (unless (first_fault layout_fault 0 bs) 3 Blocks (judged_fields (map block_fields bs)))
+    unless (first_fault check_fault 0 bs) wrong_check
+    (unless (first_fault layout_fault 0 bs) broken_layout (judged_fields (map block_fields bs)))
 
 -- what bytes read as: check 1 is that of their length
 unfoldable pub read_message : List ℕ → MessageReading
-read_message bs = cond (whole bs) (judged_blocks (blocks_of bs)) (Err (refusal 1 Blocks (record { block = 0; place = 0 })))
+read_message bs = cond (whole bs) (judged_blocks (blocks_of bs)) (Err NotWhole)
 
 -- the bytes that the fields of the blocks are written as, block by block
 abbrev pub written_as : List (List FieldValue) → List ℕ

@@ -1,38 +1,32 @@
--- The kinds of message, and the fields that their blocks have.
-use Rattle.std.specs.Prelude.{ℕ, cond, List, [], ◌∷◌, Some, None, Option, ◌==◌, nat_lt}
+-- The fields that the blocks of a message have, by its kind.
+use Rattle.std.specs.Prelude.{ℕ, Bool, true, false, cond, List, [], ◌∷◌, Some, None, Option, ◌==◌, nat_lt}
 use Rattle.tags.specs.declared.listing.Tag.{Tag}
 use Rattle.tags.specs.declared.listing.Tag.TheVariants as tag
 use Rattle.tags.specs.Tags.{number_of}
 use Rattle.block.specs.Fields.{FieldValue}
-use Rattle.message.specs.declared.shapes.Kind.{Kind}
-use Rattle.message.specs.declared.shapes.Kind.TheVariants.{Request, Report, Reply, Recall}
+use Rattle.values.specs.declared.kind.Kind.{Kind}
+use Rattle.values.specs.declared.kind.Kind.TheVariants.{Request, Report, Reply, Recall}
 use Rattle.message.specs.declared.shapes.Role.{Role}
 use Rattle.message.specs.declared.shapes.Role.TheVariants.{Header, Transaction}
-use Rattle.message.specs.declared.shapes.Need.{Need}
-use Rattle.message.specs.declared.shapes.Need.TheVariants.{Required, Optional}
 use Rattle.message.specs.declared.shapes.Slot.{Slot}
-
--- the kind that a number stands for: 13, 14, 29 or 56
-abbrev pub kind_of : ℕ → Option Kind
-kind_of n =
-    cond (n == 13) (Some Request)
-    (cond (n == 14) (Some Report)
-    (cond (n == 29) (Some Reply)
-    (cond (n == 56) (Some Recall) None)))
-
--- the number of a kind
-abbrev pub kind_number : Kind → ℕ
-kind_number Request = 13
-kind_number Report = 14
-kind_number Reply = 29
-kind_number Recall = 56
+use Rattle.message.specs.declared.shapes.Slot.TheVariants.{Required, Optional}
 
 -- fields that must stand, and fields that may
 abbrev pub required : Tag → Slot
-required t = record { tag = t; need = Required }
+required t = Required t
 
 abbrev pub optional : Tag → Slot
-optional t = record { tag = t; need = Optional }
+optional t = Optional t
+
+-- the tag of the field that has this place
+abbrev pub slot_tag : Slot → Tag
+slot_tag (Required t) = t
+slot_tag (Optional t) = t
+
+-- whether the field has to stand
+abbrev pub is_required : Slot → Bool
+is_required (Required t) = true
+is_required (Optional t) = false
 
 -- the header of a request
 abbrev pub request_header : List Slot
@@ -69,17 +63,17 @@ shape Report Transaction = answer_transaction
 shape Reply Header = header_with_original
 shape Reply Transaction = answer_transaction
 
--- a field with the tag t is absent: a fault where it must stand, else what comes after decides
-abbrev pub absent : Need → ℕ → Option ℕ → Option ℕ
-absent Required t after = Some t
-absent Optional t after = after
+-- the field is absent: a fault where it must stand, else what comes after decides
+abbrev pub absent : Slot → Option ℕ → Option ℕ
+absent (Required t) after = Some (number_of t)
+absent (Optional t) after = after
 
 -- the lowest tag that is missing or out of place, of fields beside the slots that they have; the tags of both rise
 abbrev pub tag_fault : List Slot → List FieldValue → Option ℕ
 tag_fault [] [] = None
 tag_fault [] (f ∷ fs) = Some f.tag
-tag_fault (s ∷ ss) [] = absent s.need (number_of s.tag) (tag_fault ss [])
+tag_fault (s ∷ ss) [] = absent s (tag_fault ss [])
 tag_fault (s ∷ ss) (f ∷ fs) =
-    cond (f.tag == number_of s.tag) (tag_fault ss fs)
-    (cond (nat_lt f.tag (number_of s.tag)) (Some f.tag)
-    (absent s.need (number_of s.tag) (tag_fault ss (f ∷ fs))))
+    cond (f.tag == number_of (slot_tag s)) (tag_fault ss fs)
+    (cond (nat_lt f.tag (number_of (slot_tag s))) (Some f.tag)
+    (absent s (tag_fault ss (f ∷ fs))))

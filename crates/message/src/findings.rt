@@ -1,33 +1,57 @@
 //! What passing over the blocks of a message finds.
 ghost use Rattle.std.specs.Prelude.{◌≡◌, ◌≤◌, [], length};
-ghost use Rattle.message.specs.Findings.{with_report, slots_of, gathered, nothing};
-ghost use Rattle.block.specs.Cutting.{blocks_of};
-ghost use Rattle.message.specs.Messages.{located, first_fault, check_fault};
+ghost use Rattle.std.specs.Option.{option_map};
+ghost use Rattle.std.specs.Result.{result_err};
+ghost use Rattle.message.specs.Findings.{with_report, slots_of, gathered, nothing, judged_findings};
+ghost use Rattle.message.specs.Messages.{first_fault, check_fault, wrong_check};
 
-use crate::refusal::Location;
-use crate::scan::{Report, scan};
-use crate::shapes::{Kind, Role, Slot};
+use crate::refusal::Refusal;
+use crate::scan::{Found, scan};
+use crate::shapes::{Role, Slot, shape};
+use block::BLOCK;
 use block::check::has_check;
-use block::{BLOCK, BODY};
+use tags::faults::BlockFault;
+use values::kind::Kind;
 
-/// The first fault of each sort, over all blocks.
-#[derive(Clone, Copy)]
+/// The first refusal by each of the checks 3 to 5, over all blocks.
+#[derive(Clone, Copy, Debug, Default, PartialEq, Eq)]
 pub(crate) struct Findings {
-    pub layout: Option<Location>,
-    pub tags: Option<Location>,
-    pub values: Option<Location>,
+    pub layout: Option<Refusal>,
+    pub tags: Option<Refusal>,
+    pub values: Option<Refusal>,
 }
 
-/// Where a tag of a block stands, if there is one.
-fn locate(block: u8, tag: Option<u8>) -> Option<Location>
-    ensures { result ≡ located block tag }
-{
-    match tag {
-        Some(tag) => Some(Location {
-            block,
-            place: u16::from(tag),
-        }),
-        None => None,
+impl Findings {
+    /// Adds what was found in a block.
+    fn add(&mut self, block: u8, found: Result<Found, BlockFault>)
+        ensures { self.new ≡ with_report self.old block found }
+    {
+        match found {
+            Err(fault) => {
+                let place = fault.place();
+                self.layout = self.layout.or(Some(Refusal::BrokenLayout { block, place }));
+            }
+            Ok(Found { tags, values }) => {
+                self.tags = self
+                    .tags
+                    .or(tags.map(|tag| Refusal::MisplacedTag { block, tag }));
+                self.values = self
+                    .values
+                    .or(values.map(|tag| Refusal::UnfitValue { block, tag }));
+            }
+        }
+    }
+
+    /// Makes the checks 3 to 5 in their order. Where the kind of the message is not known, tag 1 of the header is the first
+    /// that is out of place.
+    pub(crate) fn judge(self, kind: Option<Kind>) -> Result<(), Refusal>
+        ensures { result_err result ≡ judged_findings kind self }
+    {
+        let tags = match kind {
+            Some(_) => self.tags,
+            None => Some(Refusal::MisplacedTag { block: 0, tag: 1 }),
+        };
+        self.layout.or(tags).or(self.values).map_or(Ok(()), Err)
     }
 }
 
@@ -35,80 +59,30 @@ fn locate(block: u8, tag: Option<u8>) -> Option<Location>
 fn slots_of(kind: Option<Kind>, block: u8) -> &'static [Slot]
     ensures { result.now ≡ slots_of kind block }
 {
-    match kind {
-        Some(kind) => kind.shape(if block == 0 {
-            Role::Header
-        } else {
-            Role::Transaction
-        }),
-        None => &[],
-    }
-}
-
-impl Findings {
-    /// The findings with what was found in a block.
-    fn with(self, block: u8, report: Report) -> Findings
-        ensures { result ≡ with_report self block report }
-    {
-        let Findings {
-            layout,
-            tags,
-            values,
-        } = self;
-        match report {
-            Report::Broken(place) => Findings {
-                layout: layout.or(Some(Location { block, place })),
-                tags,
-                values,
-            },
-            Report::Laid {
-                tags: tag,
-                values: value,
-            } => Findings {
-                layout,
-                tags: tags.or(locate(block, tag)),
-                values: values.or(locate(block, value)),
-            },
-        }
-    }
+    kind.map_or(&[], |kind| shape(kind, Role::of_block(block)))
 }
 
 /// Passes over the fields of each block once.
-pub(crate) fn gather(kind: Option<Kind>, bytes: &[u8]) -> Findings
-    requires { length bytes.now ≤ 8704 }
-    ensures { result ≡ gathered kind 0 (blocks_of bytes.now) nothing }
+pub(crate) fn gather(kind: Option<Kind>, blocks: &[[u8; BLOCK]]) -> Findings
+    requires { length blocks.now ≤ 17 }
+    ensures { result ≡ gathered kind 0 blocks.now nothing }
 {
-    let mut findings = Findings {
-        layout: None,
-        tags: None,
-        values: None,
-    };
-    let mut number: u8 = 0;
-    let mut rest = bytes;
-    while let Some((block, more)) = rest.split_first_chunk::<BLOCK>() {
-        findings = findings.with(number, scan(block, slots_of(kind, number)));
-        number += 1;
-        rest = more;
+    let mut findings = Findings::default();
+    for (number, block) in (0..).zip(blocks) {
+        findings.add(number, scan(block, slots_of(kind, number)));
     }
     findings
 }
 
-/// The first block whose check is wrong.
-pub(crate) fn wrong_check(bytes: &[u8]) -> Option<Location>
-    requires { length bytes.now ≤ 8704 }
-    ensures { result ≡ first_fault check_fault 0 (blocks_of bytes.now) }
+/// Makes check 2: each block has its check.
+pub(crate) fn judge_checks(blocks: &[[u8; BLOCK]]) -> Result<(), Refusal>
+    requires { length blocks.now ≤ 17 }
+    ensures { result_err result ≡ option_map wrong_check (first_fault check_fault 0 blocks.now) }
 {
-    let mut number: u8 = 0;
-    let mut rest = bytes;
-    while let Some((block, more)) = rest.split_first_chunk::<BLOCK>() {
-        if !has_check(block) {
-            return Some(Location {
-                block: number,
-                place: BODY as u16,
-            });
+    for (block, bytes) in (0..).zip(blocks) {
+        if !has_check(bytes) {
+            return Err(Refusal::WrongCheck { block });
         }
-        number += 1;
-        rest = more;
     }
-    None
+    Ok(())
 }

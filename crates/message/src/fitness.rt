@@ -17,9 +17,9 @@ pub(crate) fn is_fit(tag: Tag, value: &[u8]) -> bool
 {
     match tag {
         Tag::CreationDate => Date::read(value).is_some(),
-        Tag::Assigner | Tag::Assignee | Tag::DebtorAgent | Tag::CreditorAgent => MemberCode::read(
-            value,
-        ).is_some(),
+        Tag::Assigner | Tag::Assignee | Tag::DebtorAgent | Tag::CreditorAgent => {
+            MemberCode::read(value).is_some()
+        }
         Tag::Uetr => Uetr::read(value).is_some(),
         Tag::EndToEnd => EndToEnd::read(value).is_some(),
         Tag::Amount => Amount::read(value).is_some(),

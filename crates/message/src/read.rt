@@ -1,18 +1,18 @@
 //! Reading: every byte string is a message, or is refused with a number and a place.
 ghost use Rattle.std.specs.Prelude.{◌≡◌, None, Err, MatchResult};
-ghost use Rattle.std.specs.Option.{option_map};
-ghost use Rattle.message.specs.Findings.{judged_findings, refused};
-ghost use Rattle.message.specs.Messages.{whole, kind_by, message_kind, read_message, refusal, WrittenReadsBack, OnlyMessage};
+ghost use Rattle.std.specs.Result.{result_err};
+ghost use Rattle.message.specs.Findings.{refused};
+ghost use Rattle.message.specs.Messages.{whole, kind_by, message_kind, read_message, WrittenReadsBack, OnlyMessage};
 
-use crate::findings::{Findings, gather, wrong_check};
-use crate::refusal::{Layer, Location, Refusal};
-use crate::shapes::Kind;
+use crate::findings::{gather, judge_checks};
+use crate::refusal::Refusal;
 use block::BLOCK;
 use block::reader::value;
 use tags::listing::Tag;
+use values::kind::Kind;
 
 /// The most bytes of a message: a header and sixteen transactions.
-pub const LONGEST: usize = 8704;
+pub const LONGEST: usize = 17 * BLOCK;
 
 /// A message that was read. Only `read` makes one; it is not copied, and who hands it on gives it away.
 #[derive(Drop)]
@@ -37,6 +37,7 @@ impl<'a> ReadMessage<'a> {
 }
 
 /// Whether bytes are 1 to 17 whole blocks.
+#[tactic(auto, unfolding(crate::specs::Messages::whole))]
 fn is_whole(bytes: &[u8]) -> bool
     ensures { result ≡ whole bytes.now }
 {
@@ -45,84 +46,46 @@ fn is_whole(bytes: &[u8]) -> bool
 }
 
 /// The kind that the first block gives, in any bytes.
+#[tactic(auto, using(std::proofs::lemmas::List::take_min), unfolding(crate::specs::Messages::message_kind))]
 fn header_kind(bytes: &[u8]) -> Option<Kind>
     ensures { result ≡ message_kind bytes.now }
 {
-    let header = &bytes[0..bytes.len().min(BLOCK)];
-    kind_by(value(header, Tag::Kind.number()))
+    let header = &bytes[..BLOCK.min(bytes.len())];
+    value(header, Tag::Kind.number()).and_then(kind_by)
 }
 
 /// The kind that the value of its field stands for.
-fn kind_by(value: Option<&[u8]>) -> Option<Kind>
-    ensures { result ≡ kind_by (option_map (λ x. x.now) value.entry) }
+fn kind_by(value: &[u8]) -> Option<Kind>
+    ensures { result ≡ kind_by (Some value.now) }
 {
     match value {
-        Some([number]) => Kind::read(*number),
+        [number] => Kind::try_from(*number).ok(),
         _ => None,
     }
 }
 
-/// A refusal at a place.
-fn refuse(number: u8, layer: Layer, at: Location) -> Refusal
-    ensures { result ≡ refusal number layer at }
-{
-    Refusal {
-        number,
-        layer,
-        block: at.block,
-        place: at.place,
-    }
-}
-
-impl Findings {
-    /// The refusal that the findings come to, in the order of the checks.
-    fn refusal(self, kind: Option<Kind>) -> Option<Refusal>
-        ensures { result ≡ refused (judged_findings kind self) }
-    {
-        let Findings {
-            layout,
-            tags,
-            values,
-        } = self;
-        if let Some(at) = layout {
-            return Some(refuse(3, Layer::Blocks, at));
-        }
-        if kind.is_none() {
-            return Some(refuse(4, Layer::Fields, Location { block: 0, place: 1 }));
-        }
-        if let Some(at) = tags {
-            return Some(refuse(4, Layer::Fields, at));
-        }
-        match values {
-            Some(at) => Some(refuse(5, Layer::Fields, at)),
-            None => None,
-        }
-    }
-}
-
-/// Why bytes do not read, if they do not: the checks 1 to 5 in their order.
-fn refusal_of(bytes: &[u8]) -> Option<Refusal>
-    ensures { result ≡ refused (read_message bytes.now) }
+/// Makes the checks 1 to 5 in their order.
+#[tactic(auto, using(crate::proofs::Forms::whole_parts, crate::proofs::Refusing::refused_length, crate::proofs::Refusing::refused_by))]
+fn check(bytes: &[u8]) -> Result<(), Refusal>
+    ensures { result_err result ≡ refused (read_message bytes.now) }
 {
     if !is_whole(bytes) {
-        return Some(refuse(1, Layer::Blocks, Location { block: 0, place: 0 }));
+        return Err(Refusal::NotWhole);
     }
-    if let Some(at) = wrong_check(bytes) {
-        return Some(refuse(2, Layer::Blocks, at));
-    }
+    let (blocks, _) = bytes.as_chunks::<BLOCK>();
+    judge_checks(blocks)?;
     let kind = header_kind(bytes);
-    gather(kind, bytes).refusal(kind)
+    gather(kind, blocks).judge(kind)
 }
 
 /// Reads a message, or says why the bytes are none. What the fields of a correct message are written as reads as those
 /// fields, and no other bytes read with the same fields.
+#[tactic(auto, using(crate::proofs::Forms::written_reads_back, crate::proofs::Forms::only_message))]
 pub fn read(bytes: &[u8]) -> Result<ReadMessage<'_>, Refusal>
     ensures answer { MatchResult result (λ m. (m.bytes.now ≡ bytes.now) × (refused (read_message bytes.now) ≡ None)) (λ e. read_message bytes.now ≡ Err e) }
     ensures back { WrittenReadsBack }
     ensures only { OnlyMessage bytes.now }
 {
-    match refusal_of(bytes) {
-        Some(refusal) => Err(refusal),
-        None => Ok(ReadMessage { bytes }),
-    }
+    check(bytes)?;
+    Ok(ReadMessage { bytes })
 }

@@ -9,20 +9,19 @@ ghost use Rattle.message.specs.Shapes.{tag_fault};
 ghost use Rattle.message.specs.Scanning.{reported, report};
 
 use crate::fitness::is_fit;
-use crate::shapes::{Need, Slot};
+use crate::shapes::Slot;
 use block::BLOCK;
 use block::fields::Fields;
+use std::cmp::Ordering;
+use tags::faults::BlockFault;
 use tags::listing::Tag;
 
-/// What is found in a block: where its layout breaks, or the lowest tag that is missing or out of place and the lowest
-/// whose value is unfit.
-#[derive(Clone, Copy)]
-pub(crate) enum Report {
-    Broken(u16),
-    Laid {
-        tags: Option<u8>,
-        values: Option<u8>,
-    },
+/// What is found in a block whose layout holds: the lowest tag that is missing or out of place, and the lowest whose
+/// value is unfit.
+#[derive(Clone, Copy, Debug, Default, PartialEq, Eq)]
+pub(crate) struct Found {
+    pub tags: Option<u8>,
+    pub values: Option<u8>,
 }
 
 /// The slots behind the one that a tag takes, or the lowest tag that is missing or out of place.
@@ -31,17 +30,12 @@ fn take_slot(slots: &[Slot], tag: u8) -> Result<&[Slot], u8>
 {
     let mut rest = slots;
     while let [slot, more @ ..] = rest {
-        let expected = slot.tag.number();
-        if tag == expected {
-            return Ok(more);
+        match (tag.cmp(&slot.tag().number()), slot) {
+            (Ordering::Equal, _) => return Ok(more),
+            (Ordering::Less, _) => return Err(tag),
+            (Ordering::Greater, Slot::Required(missing)) => return Err(missing.number()),
+            (Ordering::Greater, Slot::Optional(_)) => rest = more,
         }
-        if tag < expected {
-            return Err(tag);
-        }
-        if let Need::Required = slot.need {
-            return Err(expected);
-        }
-        rest = more;
     }
     Err(tag)
 }
@@ -50,82 +44,49 @@ fn take_slot(slots: &[Slot], tag: u8) -> Result<&[Slot], u8>
 fn lowest_required(slots: &[Slot]) -> Option<u8>
     ensures { result ≡ tag_fault slots.now [] }
 {
-    for slot in slots {
-        if let Need::Required = slot.need {
-            return Some(slot.tag.number());
-        }
-    }
-    None
+    slots
+        .iter()
+        .find(|slot| slot.is_required())
+        .map(|slot| slot.tag().number())
 }
 
-/// A pass over a block: the slots that are left, and the lowest faults so far.
+/// A pass over a block: the slots that are left, and what was found so far.
 #[derive(Clone, Copy)]
 struct Pass<'a> {
     slots: &'a [Slot],
-    tags: Option<u8>,
-    values: Option<u8>,
+    found: Found,
 }
 
-impl<'a> Pass<'a> {
-    /// The pass behind a tag.
-    fn past_tag(self, tag: u8) -> Pass<'a>
-        ensures tags { (v : List ℕ) (fs : List FieldValue) → option_or self.entry.tags (tag_fault self.entry.slots.now (record { tag = tag; value = v } ∷ fs)) ≡ option_or result.tags (tag_fault result.slots.now fs) }
-        ensures values { result.values ≡ self.entry.values }
+impl Pass<'_> {
+    /// Goes past a tag.
+    fn take(&mut self, tag: u8)
+        ensures tags { (v : List ℕ) (fs : List FieldValue) → option_or self.old.found.tags (tag_fault self.old.slots.now (record { tag = tag; value = v } ∷ fs)) ≡ option_or self.new.found.tags (tag_fault self.new.slots.now fs) }
+        ensures values { self.new.found.values ≡ self.old.found.values }
     {
-        let Pass {
-            slots,
-            tags,
-            values,
-        } = self;
-        if tags.is_some() {
-            return Pass {
-                slots,
-                tags,
-                values,
-            };
-        }
-        match take_slot(slots, tag) {
-            Ok(slots) => Pass {
-                slots,
-                tags,
-                values,
-            },
-            Err(lowest) => Pass {
-                slots,
-                tags: Some(lowest),
-                values,
-            },
+        if self.found.tags.is_none() {
+            match take_slot(self.slots, tag) {
+                Ok(left) => self.slots = left,
+                Err(lowest) => self.found.tags = Some(lowest),
+            }
         }
     }
 
-    /// The pass behind a field.
-    fn past(self, tag: Tag, value: &[u8]) -> Pass<'a>
-        ensures { (v : Reading) → reported self.entry.tags self.entry.values self.entry.slots.now (led (record { tag = number_of tag; value = value.now }) v) ≡ reported result.tags result.values result.slots.now v }
+    /// Goes past a field.
+    #[tactic(auto, using(crate::proofs::Passing::reported_past))]
+    fn go_past(&mut self, tag: Tag, value: &[u8])
+        ensures { (v : Reading) → reported self.old.found self.old.slots.now (led (record { tag = number_of tag; value = value.now }) v) ≡ reported self.new.found self.new.slots.now v }
     {
-        let Pass {
-            slots,
-            tags,
-            values,
-        } = self.past_tag(tag.number());
-        Pass {
-            slots,
-            tags,
-            values: values.or(unfit(tag, value)),
-        }
+        self.take(tag.number());
+        self.found.values = self.found.values.or(unfit(tag, value));
     }
 
     /// What the pass found, behind the last field.
-    fn report(self) -> Report
-        ensures { result ≡ reported self.entry.tags self.entry.values self.entry.slots.now (Ok []) }
+    fn finish(self) -> Found
+        ensures { Ok result ≡ reported self.entry.found self.entry.slots.now (Ok []) }
     {
-        let Pass {
-            slots,
-            tags,
-            values,
-        } = self;
-        Report::Laid {
-            tags: tags.or(lowest_required(slots)),
-            values,
+        Found {
+            tags: self.found.tags.or(lowest_required(self.slots)),
+            ..self.found
         }
     }
 }
@@ -134,28 +95,20 @@ impl<'a> Pass<'a> {
 fn unfit(tag: Tag, value: &[u8]) -> Option<u8>
     ensures { result ≡ (if fits tag value.now then None else Some (number_of tag)) }
 {
-    if is_fit(tag, value) {
-        None
-    } else {
-        Some(tag.number())
-    }
+    (!is_fit(tag, value)).then(|| tag.number())
 }
 
 /// Passes once over the fields of a block, beside the slots that they have.
-pub(crate) fn scan(block: &[u8; BLOCK], slots: &[Slot]) -> Report
+pub(crate) fn scan(block: &[u8; BLOCK], slots: &[Slot]) -> Result<Found, BlockFault>
     ensures { result ≡ report slots.now (layout block.now) }
 {
     let mut fields = Fields::of(block, 0);
     let mut pass = Pass {
         slots,
-        tags: None,
-        values: None,
+        found: Found::default(),
     };
-    loop {
-        match fields.next() {
-            Err(fault) => return Report::Broken(fault.place()),
-            Ok(None) => return pass.report(),
-            Ok(Some(part)) => pass = pass.past(part.tag, part.field.bytes()),
-        }
+    while let Some(part) = fields.next()? {
+        pass.go_past(part.tag, part.field.bytes());
     }
+    Ok(pass.finish())
 }

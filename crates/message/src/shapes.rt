@@ -1,197 +1,111 @@
-//! The kinds of message, and which fields the blocks of each kind have.
+//! Which fields the blocks of a message have, by its kind.
 ghost use Rattle.std.specs.Prelude.{◌≡◌};
-ghost use Rattle.message.specs.Shapes.{kind_of, kind_number, shape};
+ghost use Rattle.message.specs.Messages.{role};
+ghost use Rattle.message.specs.Shapes.{slot_tag, is_required, shape};
 
+use crate::shapes::Slot::{Optional, Required};
 use tags::listing::Tag;
-
-/// What a message is, by its number.
-#[derive(Clone, Copy)]
-pub enum Kind {
-    /// A request to pay (pain.013).
-    Request = 13,
-    /// A report on a request (pain.014).
-    Report = 14,
-    /// A reply to a recall (camt.029).
-    Reply = 29,
-    /// A recall of a payment or of a request (camt.056).
-    Recall = 56,
-}
+use values::kind::Kind;
 
 /// What a block is to its message.
-#[derive(Clone, Copy)]
+#[derive(Clone, Copy, Debug, PartialEq, Eq)]
 pub(crate) enum Role {
     Header,
     Transaction,
 }
 
-/// Whether a field has to stand.
-#[derive(Clone, Copy)]
-pub(crate) enum Need {
-    Required,
-    Optional,
+impl Role {
+    /// The role of the block with this number: the header is block 0.
+    pub(crate) fn of_block(number: u8) -> Role
+        ensures { result ≡ role number }
+    {
+        if number == 0 {
+            Role::Header
+        } else {
+            Role::Transaction
+        }
+    }
 }
 
 /// The place of a field in a block.
-#[derive(Clone, Copy)]
-pub(crate) struct Slot {
-    pub tag: Tag,
-    pub need: Need,
+#[derive(Clone, Copy, Debug, PartialEq, Eq)]
+pub(crate) enum Slot {
+    /// The field has to stand.
+    Required(Tag),
+    /// The field may stand.
+    Optional(Tag),
 }
 
+impl Slot {
+    /// The tag of the field.
+    pub(crate) fn tag(self) -> Tag
+        ensures { result ≡ slot_tag self }
+    {
+        match self {
+            Required(tag) | Optional(tag) => tag,
+        }
+    }
+
+    /// Whether the field has to stand.
+    pub(crate) fn is_required(self) -> bool
+        ensures { result ≡ is_required self }
+    {
+        matches!(self, Required(_))
+    }
+}
+
+// A constant cannot be put together from others, so the six tags with which both headers begin stand in each.
 const REQUEST_HEADER: [Slot; 7] = [
-    Slot {
-        tag: Tag::Kind,
-        need: Need::Required,
-    },
-    Slot {
-        tag: Tag::Identifier,
-        need: Need::Required,
-    },
-    Slot {
-        tag: Tag::CreationDate,
-        need: Need::Required,
-    },
-    Slot {
-        tag: Tag::Assigner,
-        need: Need::Required,
-    },
-    Slot {
-        tag: Tag::Assignee,
-        need: Need::Required,
-    },
-    Slot {
-        tag: Tag::NumberOfTransactions,
-        need: Need::Required,
-    },
-    Slot {
-        tag: Tag::DebtorAgent,
-        need: Need::Required,
-    },
+    Required(Tag::Kind),
+    Required(Tag::Identifier),
+    Required(Tag::CreationDate),
+    Required(Tag::Assigner),
+    Required(Tag::Assignee),
+    Required(Tag::NumberOfTransactions),
+    Required(Tag::DebtorAgent),
 ];
 
 const HEADER_WITH_ORIGINAL: [Slot; 8] = [
-    Slot {
-        tag: Tag::Kind,
-        need: Need::Required,
-    },
-    Slot {
-        tag: Tag::Identifier,
-        need: Need::Required,
-    },
-    Slot {
-        tag: Tag::CreationDate,
-        need: Need::Required,
-    },
-    Slot {
-        tag: Tag::Assigner,
-        need: Need::Required,
-    },
-    Slot {
-        tag: Tag::Assignee,
-        need: Need::Required,
-    },
-    Slot {
-        tag: Tag::NumberOfTransactions,
-        need: Need::Required,
-    },
-    Slot {
-        tag: Tag::OriginalKind,
-        need: Need::Required,
-    },
-    Slot {
-        tag: Tag::OriginalIdentifier,
-        need: Need::Required,
-    },
+    Required(Tag::Kind),
+    Required(Tag::Identifier),
+    Required(Tag::CreationDate),
+    Required(Tag::Assigner),
+    Required(Tag::Assignee),
+    Required(Tag::NumberOfTransactions),
+    Required(Tag::OriginalKind),
+    Required(Tag::OriginalIdentifier),
 ];
 
 const REQUEST_TRANSACTION: [Slot; 4] = [
-    Slot {
-        tag: Tag::Uetr,
-        need: Need::Required,
-    },
-    Slot {
-        tag: Tag::EndToEnd,
-        need: Need::Required,
-    },
-    Slot {
-        tag: Tag::Amount,
-        need: Need::Required,
-    },
-    Slot {
-        tag: Tag::CreditorAgent,
-        need: Need::Required,
-    },
+    Required(Tag::Uetr),
+    Required(Tag::EndToEnd),
+    Required(Tag::Amount),
+    Required(Tag::CreditorAgent),
 ];
 
 const RECALL_TRANSACTION: [Slot; 3] = [
-    Slot {
-        tag: Tag::Uetr,
-        need: Need::Required,
-    },
-    Slot {
-        tag: Tag::EndToEnd,
-        need: Need::Required,
-    },
-    Slot {
-        tag: Tag::Amount,
-        need: Need::Required,
-    },
+    Required(Tag::Uetr),
+    Required(Tag::EndToEnd),
+    Required(Tag::Amount),
 ];
 
 const ANSWER_TRANSACTION: [Slot; 5] = [
-    Slot {
-        tag: Tag::Uetr,
-        need: Need::Required,
-    },
-    Slot {
-        tag: Tag::EndToEnd,
-        need: Need::Required,
-    },
-    Slot {
-        tag: Tag::Status,
-        need: Need::Required,
-    },
-    Slot {
-        tag: Tag::Reason,
-        need: Need::Optional,
-    },
-    Slot {
-        tag: Tag::Text,
-        need: Need::Optional,
-    },
+    Required(Tag::Uetr),
+    Required(Tag::EndToEnd),
+    Required(Tag::Status),
+    Optional(Tag::Reason),
+    Optional(Tag::Text),
 ];
 
-impl Kind {
-    /// The kind that a number stands for.
-    pub fn read(number: u8) -> Option<Kind>
-        ensures { result ≡ kind_of number }
-    {
-        match number {
-            13 => Some(Kind::Request),
-            14 => Some(Kind::Report),
-            29 => Some(Kind::Reply),
-            56 => Some(Kind::Recall),
-            _ => None,
-        }
-    }
-
-    /// Its number.
-    pub fn number(self) -> u8
-        ensures { result ≡ kind_number self }
-    {
-        self as u8
-    }
-
-    /// The fields of its header or of its transactions, in the order of their tags.
-    pub(crate) fn shape(self, role: Role) -> &'static [Slot]
-        ensures { result.now ≡ shape self role }
-    {
-        match (self, role) {
-            (Kind::Request, Role::Header) => &REQUEST_HEADER,
-            (Kind::Request, Role::Transaction) => &REQUEST_TRANSACTION,
-            (Kind::Recall | Kind::Report | Kind::Reply, Role::Header) => &HEADER_WITH_ORIGINAL,
-            (Kind::Recall, Role::Transaction) => &RECALL_TRANSACTION,
-            (Kind::Report | Kind::Reply, Role::Transaction) => &ANSWER_TRANSACTION,
-        }
+/// The fields of the header or of the transactions of a message of this kind, in the order of their tags.
+pub(crate) fn shape(kind: Kind, role: Role) -> &'static [Slot]
+    ensures { result.now ≡ shape kind role }
+{
+    match (kind, role) {
+        (Kind::Request, Role::Header) => &REQUEST_HEADER,
+        (Kind::Request, Role::Transaction) => &REQUEST_TRANSACTION,
+        (Kind::Recall | Kind::Report | Kind::Reply, Role::Header) => &HEADER_WITH_ORIGINAL,
+        (Kind::Recall, Role::Transaction) => &RECALL_TRANSACTION,
+        (Kind::Report | Kind::Reply, Role::Transaction) => &ANSWER_TRANSACTION,
     }
 }

@@ -1,33 +1,15 @@
-use Rattle.std.proofs.Common.{◌+◌, [], get_or, drop, Some, sym, ap, ◌∙◌}
-use Rattle.std.proofs.lemmas.List.{at_drop_more, at_drop_all}
-use Rattle.tags.specs.declared.listing.Tag.TheVariants.{Kind}
-use Rattle.tags.specs.Tags.{number_of}
-use Rattle.message.specs.declared.shapes.Need.TheVariants.{Required}
-use Rattle.message.specs.declared.shapes.Slot.{Slot}
-use Rattle.message.specs.Shapes.{tag_fault, absent}
+use Rattle.std.proofs.Common.{◌≡◌, rules, tests, arith}
+use Rattle.std.proofs.lemmas.Grind.{common_steps}
+use Rattle.std.specs.Option.{option_map}
+use Rattle.std.specs.List.{find}
+use Rattle.std.proofs.lemmas.Iterator.{YieldsList-from_slice}
+use Rattle.std.proofs.lemmas.Iterator.Search.{find_from_yields_List}
+use Rattle.message.specs.Shapes.{is_required}
+use Rattle.message.proofs.Slots.{first_required}
 use Rattle.message.proofs.scan.lowest_required.Goals as goal
 
-none : Slot
-none = record { tag = Kind; need = Required }
-
-pub returns-in-Required : goal.returns-in-Required
-unfolding none
-returns-in-Required c =
-    let i = c.loop-slot.slot-index in
-    let s = get_or c.args.slots.now i none in
-    ap Some c.number.ensures
-    ∙ sym (ap (λ o. absent o (number_of s.tag) (tag_fault (drop (i + 1) c.args.slots.now) [])) c.in-Required.is)
-    ∙ sym (at_drop_more (λ ss. tag_fault ss []) c.args.slots.now i none c.loop-slot-test.true)
-    ∙ c.loop-slot.invariant
-
-pub loop-slot-preserved : goal.loop-slot-preserved
-unfolding none
-loop-slot-preserved c =
-    let i = c.loop-slot.slot-index in
-    let s = get_or c.args.slots.now i none in
-    sym (ap (λ o. absent o (number_of s.tag) (tag_fault (drop (i + 1) c.args.slots.now) [])) c.in_default.is)
-    ∙ sym (at_drop_more (λ ss. tag_fault ss []) c.args.slots.now i none c.loop-slot-test.true)
-    ∙ c.loop-slot.invariant
-
 pub returns : goal.returns
-returns c = sym (at_drop_all (λ ss. tag_fault ss []) c.args.slots.now c.loop-slot.slot-index c.loop-slot-test.false) ∙ c.loop-slot.invariant
+returns c =
+    let f : option_map (λ s. s.now) c.find.result ≡ find is_required c.args.slots.now = find_from_yields_List is_required _ _ _ c.find.ensures.ran (YieldsList-from_slice c.args.slots.now cc) (λ x b q k. search (rules, tests)) in
+    let r = first_required c.args.slots.now in
+    grind (arith, common_steps)
