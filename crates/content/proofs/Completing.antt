@@ -7,24 +7,24 @@ use Rattle.tags.specs.declared.listing.Tag.TheVariants as tag
 use Rattle.tags.specs.Tags.{number_of, listed}
 use Rattle.block.specs.Fields.{FieldValue, Legal, value_of}
 use Rattle.block.specs.Following.{given, if_given}
-use Rattle.octets.specs.Bytes.{kept}
+use Rattle.octets.specs.Bytes.{kept, read_byte, read_pair}
 use Rattle.values.specs.Codes.{member_code, uetr, status, reason, read_member_code, read_uetr, read_status, read_reason}
 use Rattle.values.specs.Texts.{end_to_end, text, read_end_to_end, read_text}
 use Rattle.values.specs.Amounts.{read_amount}
 use Rattle.dates.specs.Dates.{read_date}
 use Rattle.octets.proofs.Parts.{is_some_kept, is_some_mapped}
-use Rattle.message.specs.declared.shapes.Kind.{Kind}
-use Rattle.message.specs.declared.shapes.Kind.TheVariants.{Request, Report, Reply, Recall}
-use Rattle.message.specs.declared.refusal.Layer.TheVariants.{Fields}
-use Rattle.message.specs.Shapes.{kind_of, shape, tag_fault}
+use Rattle.values.specs.declared.kind.Kind.{Kind}
+use Rattle.values.specs.declared.kind.Kind.TheVariants.{Request, Report, Reply, Recall}
+use Rattle.values.specs.Kinds.{kind_of}
+use Rattle.message.specs.Shapes.{shape, tag_fault}
 use Rattle.message.specs.Fitness.{fits, value_fault}
-use Rattle.message.specs.Messages.{MessageReading, role, first_fault, tags_fault, values_fault, kind_by, first_tags_fault, judged_fields, read_message, AllLegal}
+use Rattle.message.specs.Messages.{MessageReading, role, first_fault, tags_fault, values_fault, kind_by, first_tags_fault, misplaced_tag, unfit_value, judged_fields, read_message, AllLegal}
 use Rattle.message.proofs.Presence.{demanded, present, Fit, fit_value}
 use Rattle.message.proofs.Forms.{unless_ok}
 use Rattle.message.proofs.Gathering.{located_none}
 use Rattle.content.specs.Records.{request, recall, report, reply, requested, recalled}
-use Rattle.items.specs.Items.{read_byte, read_raw_identifier, byte_in, identifier_in, member_code_in, uetr_in, end_to_end_in, amount_in}
-use Rattle.content.specs.Items.{read_number, number_in, creation_date_in, status_in, reason_in, text_in}
+use Rattle.items.specs.Items.{read_raw_identifier, byte_in, identifier_in, member_code_in, uetr_in, end_to_end_in, amount_in}
+use Rattle.content.specs.Items.{number_in, creation_date_in, status_in, reason_in, text_in}
 use Rattle.content.specs.Decoding.{original_in, purpose_in, header_in, answer_in, detail_in, transaction_in, transactions_in, header_kind, content_of, content_in, decoded}
 use Rattle.block.proofs.Chaining.{given-some}
 use Rattle.content.proofs.Fronts.{read_holds}
@@ -40,7 +40,7 @@ byte_reads [] e = absurd (omega (arith, e))
 byte_reads (n ∷ []) e = refl
 byte_reads (n ∷ m ∷ ns) e = absurd (omega (arith, e))
 
-number_reads : (v : List ℕ) → length v ≡ 2 → is_some (read_number v) ≡ true
+number_reads : (v : List ℕ) → length v ≡ 2 → is_some (read_pair v) ≡ true
 number_reads [] e = absurd (omega (arith, e))
 number_reads (h ∷ []) e = absurd (omega (arith, e))
 number_reads (h ∷ l ∷ []) e = refl
@@ -72,60 +72,50 @@ module _ (k : Kind) (n : ℕ) (fs : List FieldValue) (legal : Legal 0 fs) (tags 
   may_stand t next h = optional_field t next (value_of (number_of t) fs) (fit_value t 0 fs legal values) h
 
   identifier_stands : demanded k n 2 ≡ true → is_some (identifier_in 2 fs) ≡ true
-  unfolding identifier_in listed
+  unfolding listed
   identifier_stands d = stands tag.Identifier read_raw_identifier d (λ v f l. kept_reads (eqb (length v) 20) v (eq-eqb (length v) 20 (only_length 20 (length v) l)))
 
   date_stands : demanded k n 3 ≡ true → is_some (creation_date_in fs) ≡ true
-  unfolding creation_date_in
   date_stands d = stands tag.CreationDate read_date d (λ v f l. f)
 
   assigner_stands : demanded k n 4 ≡ true → is_some (member_code_in 4 fs) ≡ true
-  unfolding member_code_in
   assigner_stands d = stands tag.Assigner read_member_code d (λ v f l. kept_reads (member_code v) v f)
 
   assignee_stands : demanded k n 5 ≡ true → is_some (member_code_in 5 fs) ≡ true
-  unfolding member_code_in
   assignee_stands d = stands tag.Assignee read_member_code d (λ v f l. kept_reads (member_code v) v f)
 
   number_stands : demanded k n 6 ≡ true → is_some (number_in fs) ≡ true
-  unfolding number_in listed
-  number_stands d = stands tag.NumberOfTransactions read_number d (λ v f l. number_reads v (only_length 2 (length v) l))
+  unfolding listed
+  number_stands d = stands tag.NumberOfTransactions read_pair d (λ v f l. number_reads v (only_length 2 (length v) l))
 
   original_stands : demanded k n 7 ≡ true → demanded k n 8 ≡ true → is_some (original_in fs) ≡ true
-  unfolding original_in byte_in identifier_in listed
+  unfolding listed
   original_stands d e =
       some_given _ _ (stands tag.OriginalKind read_byte d (λ v f l. byte_reads v (only_length 1 (length v) l))) (λ x.
       some_given _ _ (stands tag.OriginalIdentifier read_raw_identifier e (λ v f l. kept_reads (eqb (length v) 20) v (eq-eqb (length v) 20 (only_length 20 (length v) l)))) (λ y. refl))
 
   debtor_agent_stands : demanded k n 9 ≡ true → is_some (member_code_in 9 fs) ≡ true
-  unfolding member_code_in
   debtor_agent_stands d = stands tag.DebtorAgent read_member_code d (λ v f l. kept_reads (member_code v) v f)
 
   uetr_stands : demanded k n 16 ≡ true → is_some (uetr_in fs) ≡ true
-  unfolding uetr_in
   uetr_stands d = stands tag.Uetr read_uetr d (λ v f l. kept_reads (uetr v) v f)
 
   end_to_end_stands : demanded k n 17 ≡ true → is_some (end_to_end_in fs) ≡ true
-  unfolding end_to_end_in
   end_to_end_stands d = stands tag.EndToEnd read_end_to_end d (λ v f l. kept_reads (end_to_end v) v f)
 
   amount_stands : demanded k n 18 ≡ true → is_some (amount_in fs) ≡ true
-  unfolding amount_in
   amount_stands d = stands tag.Amount read_amount d (λ v f l. f)
 
   creditor_agent_stands : demanded k n 22 ≡ true → is_some (member_code_in 22 fs) ≡ true
-  unfolding member_code_in
   creditor_agent_stands d = stands tag.CreditorAgent read_member_code d (λ v f l. kept_reads (member_code v) v f)
 
   answer_stands : demanded k n 19 ≡ true → is_some (answer_in fs) ≡ true
-  unfolding answer_in status_in reason_in text_in
   answer_stands d =
       some_given _ _ (stands tag.Status read_status d (λ v f l. kept_reads (status v) v f)) (λ x.
       some_given _ _ (may_stand tag.Reason read_reason (λ v f. kept_reads (reason v) v f)) (λ y.
       some_given _ _ (may_stand tag.Text read_text (λ v f. kept_reads (text v) v f)) (λ z. refl)))
 
   header_stands : demanded k n 2 ≡ true → demanded k n 3 ≡ true → demanded k n 4 ≡ true → demanded k n 5 ≡ true → demanded k n 6 ≡ true → is_some (purpose_in k fs) ≡ true → is_some (header_in k fs) ≡ true
-  unfolding header_in
   header_stands a b c d e p =
       some_given _ _ (identifier_stands a) (λ v.
       some_given _ _ (date_stands b) (λ w.
@@ -135,19 +125,16 @@ module _ (k : Kind) (n : ℕ) (fs : List FieldValue) (legal : Legal 0 fs) (tags 
       some_given _ _ p (λ u. refl))))))
 
   transaction_stands : demanded k n 16 ≡ true → demanded k n 17 ≡ true → is_some (detail_in k fs) ≡ true → is_some (transaction_in k fs) ≡ true
-  unfolding transaction_in
   transaction_stands a b p = some_given _ _ (uetr_stands a) (λ x. some_given _ _ (end_to_end_stands b) (λ y. some_given _ _ p (λ z. refl)))
 
 -- kind by kind
 header_reads : (k : Kind) (fs : List FieldValue) → Legal 0 fs → tags_fault k 0 fs ≡ None → value_fault fs ≡ None → is_some (header_in k fs) ≡ true
-unfolding purpose_in
 header_reads Request fs l t v = header_stands Request 0 fs l t v refl refl refl refl refl (is_some_mapped request (member_code_in 9 fs) ∙ debtor_agent_stands Request 0 fs l t v refl)
 header_reads Recall fs l t v = header_stands Recall 0 fs l t v refl refl refl refl refl (is_some_mapped recall (original_in fs) ∙ original_stands Recall 0 fs l t v refl refl)
 header_reads Report fs l t v = header_stands Report 0 fs l t v refl refl refl refl refl (is_some_mapped report (original_in fs) ∙ original_stands Report 0 fs l t v refl refl)
 header_reads Reply fs l t v = header_stands Reply 0 fs l t v refl refl refl refl refl (is_some_mapped reply (original_in fs) ∙ original_stands Reply 0 fs l t v refl refl)
 
 transaction_reads : (k : Kind) (fs : List FieldValue) → Legal 0 fs → tags_fault k 1 fs ≡ None → value_fault fs ≡ None → is_some (transaction_in k fs) ≡ true
-unfolding detail_in
 transaction_reads Request fs l t v =
     transaction_stands Request 1 fs l t v refl refl
     (some_given _ _ (amount_stands Request 1 fs l t v refl) (λ a. is_some_mapped (requested a) (member_code_in 22 fs) ∙ creditor_agent_stands Request 1 fs l t v refl))
@@ -180,11 +167,11 @@ known_kind (Some k) fss e = (k, refl, e)
 
 -- fields without a fault say all that a message says
 content_reads : (fss : List (List FieldValue)) → AllLegal fss → judged_fields fss ≡ Ok fss → is_some (content_in fss) ≡ true
-unfolding content_in header_kind byte_in
+unfolding content_in
 content_reads [] l e = absurd (let z : ◌≡◌ {A = ℕ} 0 1 = cc in omega arith)
 content_reads (fs ∷ fss) l e =
-    let a = unless_ok (first_tags_fault (kind_by (value_of 1 fs)) (fs ∷ fss)) 4 Fields _ (fs ∷ fss) e in
-    let b = unless_ok (first_fault values_fault 0 (fs ∷ fss)) 5 Fields (Ok (fs ∷ fss)) (fs ∷ fss) a.1 in
+    let a = unless_ok (first_tags_fault (kind_by (value_of 1 fs)) (fs ∷ fss)) misplaced_tag _ (fs ∷ fss) e in
+    let b = unless_ok (first_fault values_fault 0 (fs ∷ fss)) unfit_value (Ok (fs ∷ fss)) (fs ∷ fss) a.1 in
     let q = known_kind (kind_by (value_of 1 fs)) (fs ∷ fss) a.0 in
     let k = q.0 in
     let t = located_none 0 (tags_fault k 0 fs) (first_fault (tags_fault k) 1 fss) q.2 in

@@ -4,30 +4,30 @@ use Rattle.std.specs.Option.{option_map}
 use Rattle.std.specs.Result.{result_ok}
 use Rattle.block.specs.Fields.{FieldValue}
 use Rattle.block.specs.Following.{given}
-use Rattle.message.specs.Shapes.{kind_of}
+use Rattle.values.specs.Kinds.{kind_of}
 use Rattle.message.specs.Messages.{read_message}
-use Rattle.message.specs.declared.shapes.Kind.{Kind}
-use Rattle.message.specs.declared.shapes.Kind.TheVariants.{Request, Report, Reply, Recall}
+use Rattle.values.specs.declared.kind.Kind.{Kind}
+use Rattle.values.specs.declared.kind.Kind.TheVariants.{Request, Report, Reply, Recall}
 use Rattle.content.specs.Records.{OriginalValue, PurposeValue, request, recall, report, reply, HeaderValue, DetailValue, requested, recalled, answered, TransactionValue, ContentValue}
 use Rattle.items.specs.Items.{byte_in, identifier_in, member_code_in, uetr_in, end_to_end_in, amount_in}
 use Rattle.content.specs.Items.{number_in, creation_date_in, status_in, reason_in, text_in}
 
 -- the original that a header names
-unfoldable pub original_in : List FieldValue → Option OriginalValue
+abbrev pub original_in : List FieldValue → Option OriginalValue
 original_in fs =
     given (byte_in 7 fs) (λ kind.
     given (identifier_in 8 fs) (λ identifier.
     Some (record { kind = kind; identifier = identifier })))
 
 -- what a message of this kind is for, by the fields of its header
-unfoldable pub purpose_in : Kind → List FieldValue → Option PurposeValue
+abbrev pub purpose_in : Kind → List FieldValue → Option PurposeValue
 purpose_in Request fs = option_map request (member_code_in 9 fs)
 purpose_in Recall fs = option_map recall (original_in fs)
 purpose_in Report fs = option_map report (original_in fs)
 purpose_in Reply fs = option_map reply (original_in fs)
 
 -- the header of a message of this kind
-unfoldable pub header_in : Kind → List FieldValue → Option HeaderValue
+abbrev pub header_in : Kind → List FieldValue → Option HeaderValue
 header_in k fs =
     given (identifier_in 2 fs) (λ identifier.
     given (creation_date_in fs) (λ date.
@@ -45,7 +45,7 @@ header_in k fs =
     })))))))
 
 -- what a transaction of an answer tells
-unfoldable pub answer_in : List FieldValue → Option DetailValue
+abbrev pub answer_in : List FieldValue → Option DetailValue
 answer_in fs =
     given (status_in fs) (λ status.
     given (reason_in fs) (λ reason.
@@ -53,14 +53,14 @@ answer_in fs =
     Some (answered status reason text))))
 
 -- what a transaction of a message of this kind tells beside its references
-unfoldable pub detail_in : Kind → List FieldValue → Option DetailValue
+abbrev pub detail_in : Kind → List FieldValue → Option DetailValue
 detail_in Request fs = given (amount_in fs) (λ amount. option_map (requested amount) (member_code_in 22 fs))
 detail_in Recall fs = option_map recalled (amount_in fs)
 detail_in Report fs = answer_in fs
 detail_in Reply fs = answer_in fs
 
 -- a transaction of a message of this kind
-unfoldable pub transaction_in : Kind → List FieldValue → Option TransactionValue
+abbrev pub transaction_in : Kind → List FieldValue → Option TransactionValue
 transaction_in k fs =
     given (uetr_in fs) (λ uetr.
     given (end_to_end_in fs) (λ end_to_end.
@@ -73,7 +73,7 @@ transactions_in k [] = Some []
 transactions_in k (fs ∷ fss) = given (transaction_in k fs) (λ t. option_map (λ ts. t ∷ ts) (transactions_in k fss))
 
 -- the kind that a header gives
-unfoldable pub header_kind : List FieldValue → Option Kind
+abbrev pub header_kind : List FieldValue → Option Kind
 header_kind fs = given (byte_in 1 fs) kind_of
 
 -- a message with this header and these transactions

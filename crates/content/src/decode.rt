@@ -11,11 +11,12 @@ ghost use Rattle.content.specs.Decoding.{header_kind, transactions_in, content_i
 use crate::header::{Header, read_header};
 use crate::transaction::{Detail, Transaction, read_transaction};
 use block::BLOCK;
-use items::byte;
+use items::item;
 use message::read::{ReadMessage, read};
-use message::shapes::Kind;
+use octets::readable::Readable;
 use tags::listing::Tag;
 use values::amount::Amount;
+use values::kind::Kind;
 use values::text::EndToEnd;
 use values::uetr::Uetr;
 
@@ -56,7 +57,7 @@ fn vacant() -> Transaction {
 fn read_kind(block: &[u8]) -> Option<Kind>
     ensures { result ≡ header_kind (fields_of block.now) }
 {
-    Kind::read(byte(block, Tag::Kind)?)
+    Kind::try_from(item::<u8>(block, Tag::Kind)?).ok()
 }
 
 /// What the blocks behind the header say, and how many they are.

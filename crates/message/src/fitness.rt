@@ -3,6 +3,7 @@ ghost use Rattle.std.specs.Prelude.{◌≡◌};
 ghost use Rattle.message.specs.Fitness.{fits};
 
 use dates::date::Date;
+use octets::readable::Readable;
 use tags::listing::Tag;
 use values::amount::Amount;
 use values::member_code::MemberCode;
