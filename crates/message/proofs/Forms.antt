@@ -1,15 +1,16 @@
 -- What is written reads back, and bytes that read are the only ones with their fields.
-use Rattle.std.proofs.Common.{◌≡◌, ℕ, zero, suc, ◌+◌, ◌*◌, ◌/◌, ◌%◌, ◌<◌, ◌≤◌, true, false, ◌&&◌, eqb, ltb, leb, List, [], ◌∷◌, ◌++◌, map, length, get_or, take, drop, Some, None, Ok, Err, Option, sym, refl, ap, ◌∙◌, ⊎_elim, arith}
+use Rattle.std.proofs.Common.{◌≡◌, ℕ, zero, suc, ◌+◌, ◌*◌, ◌/◌, ◌%◌, ◌<◌, ◌≤◌, true, List, [], ◌∷◌, ◌++◌, map, length, get_or, take, drop, Some, None, Ok, Err, Option, sym, refl, ap, ◌∙◌, arith}
 use Rattle.std.specs.List.{flat_map}
 use Rattle.std.proofs.lemmas.List.{length-append, length-take-le, length-drop, take_at, drop_at, get_or-take, get_or-drop, take-append-drop, length-take, get_or_past, nil_from_length}
-use Rattle.std.proofs.lemmas.Bool.{cases_Bool, cases_lt, cond-true, lt-ltb, eq-eqb, le-leb, ltb-true, eqb-true, leb-true, and_from, and_parts}
+use Rattle.std.proofs.lemmas.Grind.{common_steps}
+use Rattle.std.proofs.lemmas.Bool.Decides.{nat_tests}
+use Rattle.std.proofs.lemmas.Bool.{cond-true}
 use Rattle.block.specs.Fields.{FieldValue, value_of}
 use Rattle.block.specs.Block.{checks, block_of}
 use Rattle.block.specs.Reading.{Reading, layout, reading}
 use Rattle.block.proofs.Laws.{reads_back, reading_parts, reading_holds, layout_fields_of}
 use Rattle.block.proofs.Laying.{length-block_of}
 use Rattle.message.specs.declared.refusal.Refusal.{Refusal}
-use Rattle.message.specs.declared.refusal.Refusal.TheVariants.{NotWhole}
 use Rattle.block.specs.Cutting.{blocks, blocks_of}
 use Rattle.message.specs.Messages.{MessageReading, Location, whole, held, first_fault, check_fault, broken_at, layout_fault, values_fault, kind_by, message_kind, kind_in, first_tags_fault, wrong_check, broken_layout, misplaced_tag, unfit_value, unless, judged_fields, block_fields, judged_blocks, read_message, written_as, AllLegal, WrittenReadsBack, OnlyMessage}
 use Rattle.block.proofs.Cutting.{blocks_of-more}
@@ -20,10 +21,7 @@ not_broken (Ok fs) e = refl
 not_broken (Err x) e = cc
 
 checked : (b : List ℕ) → check_fault 0 b ≡ None → checks b ≡ true
-checked b e =
-    ⊎_elim (λ (t : checks b ≡ true). t)
-    (λ (t : checks b ≡ false). let q : Some 510 ≡ None = rw t at e in absurd (let z : ◌≡◌ {A = ℕ} 0 1 = cc in omega arith))
-    (cases_Bool (checks b))
+checked b e = grind (arith, common_steps)
 
 -- where no layout breaks, the kind found at the front of the header is that of its fields
 pub header_kind : (xs : List ℕ) → 512 ≤ length xs → first_fault layout_fault 0 (blocks_of xs) ≡ None → message_kind xs ≡ kind_in (map block_fields (blocks_of xs))
@@ -37,10 +35,7 @@ header_kind xs h e =
 -- the parts of `whole`
 pub whole_parts : (xs : List ℕ) → whole xs ≡ true → (0 < length xs) × (length xs % 512 ≡ 0) × (length xs ≤ 8704)
 unfolding whole
-whole_parts xs e =
-    let a = and_parts (ltb 0 (length xs) && eqb (length xs % 512) 0) (leb (length xs) 8704) e in
-    let b = and_parts (ltb 0 (length xs)) (eqb (length xs % 512) 0) a.0 in
-    (ltb-true 0 (length xs) b.0, eqb-true (length xs % 512) 0 b.1, leb-true (length xs) 8704 a.1)
+whole_parts xs e = grind (arith, nat_tests)
 
 -- whole blocks put together again
 blocks_joined : (n : ℕ) (xs : List ℕ) → length xs ≡ n * 512 → flat_map (λ (b : List ℕ). b) (blocks n xs) ≡ xs
@@ -49,10 +44,7 @@ blocks_joined (suc n) xs e = ap (λ y. take 512 xs ++ y) (blocks_joined n (drop 
 
 -- bytes stay bytes in a part
 take_bytes : (n : ℕ) (xs : List ℕ) → ((i : ℕ) → get_or xs i 0 < 256) → (i : ℕ) → get_or (take n xs) i 0 < 256
-take_bytes n xs h i =
-    ⊎_elim (λ (l : i < n). rw (get_or-take n xs i 0 l) (h i))
-    (λ (g : n ≤ i). let p = get_or_past (take n xs) i 0 (omega (arith, length-take n xs)) in omega (arith, p))
-    (cases_lt i n)
+take_bytes n xs h i = grind (arith, get_or-take, get_or_past, length-take {A = ℕ}, h i)
 
 drop_bytes : (n : ℕ) (xs : List ℕ) → ((i : ℕ) → get_or xs i 0 < 256) → (i : ℕ) → get_or (drop n xs) i 0 < 256
 drop_bytes n xs h i = rw (get_or-drop n xs i 0) (h (n + i))
@@ -86,10 +78,7 @@ fields_ok fss gss e =
 
 read_whole : (xs : List ℕ) (fss : List (List FieldValue)) → read_message xs ≡ Ok fss → (whole xs ≡ true) × (judged_blocks (blocks_of xs) ≡ Ok fss)
 unfolding read_message
-read_whole xs fss e =
-    ⊎_elim (λ (t : whole xs ≡ true). (t, sym (cond-true (whole xs) _ _ t) ∙ e))
-    (λ (t : whole xs ≡ false). let q : Err NotWhole ≡ Ok fss = rw t at e in absurd (let z : ◌≡◌ {A = ℕ} 0 1 = cc in omega arith))
-    (cases_Bool (whole xs))
+read_whole xs fss e = grind (arith, common_steps)
 
 -- what is known of bytes that read: they are n whole blocks, none with a fault of check or layout, and their fields are judged right
 pub record Faultless (xs : List ℕ) (fss : List (List FieldValue)) (n : ℕ) : Type 0 where
@@ -155,7 +144,7 @@ unfolding read_message whole blocks_of
 written_reads_back fss a b l e =
     let xs = written_as fss in
     let n = length-written fss l in
-    let w : whole xs ≡ true = and_from (ltb 0 (length xs) && eqb (length xs % 512) 0) (leb (length xs) 8704) (and_from (ltb 0 (length xs)) (eqb (length xs % 512) 0) (lt-ltb 0 (length xs) (omega arith)) (eq-eqb (length xs % 512) 0 (omega arith))) (le-leb (length xs) 8704 (omega arith)) in
+    let w : whole xs ≡ true = grind (arith, nat_tests) in
     let d : length xs / 512 ≡ length fss = omega arith in
     let bs : blocks_of xs ≡ map block_of fss = ap (λ m. blocks m xs) d ∙ blocks-written fss l in
     cond-true (whole xs) _ _ w

@@ -14,10 +14,6 @@ use Rattle.message.specs.Scanning.{report}
 use Rattle.message.specs.Messages.{MessageReading, Location, role, held, located, first_fault, broken_at, layout_fault, tags_fault, values_fault, kind_in, first_tags_fault, broken_layout, misplaced_tag, unfit_value, unless, judged_fields, block_fields}
 use Rattle.message.specs.Findings.{with_report, slots_of, gathered, nothing, tags_found, judged_findings, refused}
 
-or_assoc : {A : Type 0} (a b c : Option A) → option_or (option_or a b) c ≡ option_or a (option_or b c)
-or_assoc None b c = refl
-or_assoc (Some x) b c = refl
-
 or_none : {A : Type 0} (a : Option A) → option_or a None ≡ a
 or_none None = refl
 or_none (Some x) = refl

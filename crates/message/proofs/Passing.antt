@@ -16,25 +16,7 @@ use Rattle.message.specs.Scanning.{reported}
 pub field_fits_by_tag : (t : Tag) (v : List ℕ) → field_fits (record { tag = number_of t; value = v }) ≡ fits t v
 unfolding field_fits
 field_fits_by_tag tag.Kind v = refl
-field_fits_by_tag tag.Identifier v = refl
-field_fits_by_tag tag.CreationDate v = refl
-field_fits_by_tag tag.Assigner v = refl
-field_fits_by_tag tag.Assignee v = refl
-field_fits_by_tag tag.NumberOfTransactions v = refl
-field_fits_by_tag tag.OriginalKind v = refl
-field_fits_by_tag tag.OriginalIdentifier v = refl
-field_fits_by_tag tag.DebtorAgent v = refl
-field_fits_by_tag tag.Verdict v = refl
-field_fits_by_tag tag.ErrorCode v = refl
-field_fits_by_tag tag.State v = refl
-field_fits_by_tag tag.ClosingIdentifier v = refl
-field_fits_by_tag tag.Uetr v = refl
-field_fits_by_tag tag.EndToEnd v = refl
-field_fits_by_tag tag.Amount v = refl
-field_fits_by_tag tag.Status v = refl
-field_fits_by_tag tag.Reason v = refl
-field_fits_by_tag tag.Text v = refl
-field_fits_by_tag tag.CreditorAgent v = refl
+field_fits_by_tag _ v = refl
 
 -- the lowest unfit tag so far, and what comes behind
 unfit_first : (a : Option ℕ) (b : Bool) (t : ℕ) (after : Option ℕ) → option_or a (cond b after (Some t)) ≡ option_or (option_or a (cond b None (Some t))) after

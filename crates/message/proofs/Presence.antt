@@ -1,6 +1,7 @@
 -- The fields of a block without a fault: those that its shape requires are there, and each holds a fit value.
-use Rattle.std.proofs.Common.{◌≡◌, ℕ, Bool, true, false, cond, ◌&&◌, ◌||◌, eqb, ltb, ◌⊎◌, List, [], ◌∷◌, length, is_some, Some, None, Option, sym, refl, ap, ◌∙◌, subst, inl, inr, ⊎_elim}
-use Rattle.std.proofs.lemmas.Bool.{eq-eqb, eqb-true, and_parts, cases_Bool, cond-true, cond-false, false≢true}
+use Rattle.std.proofs.Common.{◌≡◌, ℕ, Bool, true, false, cond, ◌&&◌, ◌||◌, eqb, List, [], ◌∷◌, length, is_some, Some, None, Option, sym, refl, ap, ◌∙◌, subst, ⊎_elim, arith}
+use Rattle.std.proofs.lemmas.Bool.Decides.{nat_tests}
+use Rattle.std.proofs.lemmas.Bool.{eqb-true, cases_Bool, cond-true, cond-false}
 use Rattle.tags.specs.declared.listing.Tag.{Tag}
 use Rattle.tags.specs.Tags.{number_of, listed}
 use Rattle.block.specs.Fields.{FieldValue, Legal, value_of}
@@ -21,44 +22,16 @@ absent_none : (s : Slot) (after : Option ℕ) → absent s after ≡ None → (i
 absent_none (Required t) after e = cc
 absent_none (Optional t) after e = (refl, e)
 
-demands_later : (x here later : Bool) → x ≡ false → (x && here || later) ≡ true → later ≡ true
-demands_later x here later e d = sym (ap (λ y. y && here || later) e) ∙ d
-
-kept-some : (b : Bool) (v : List ℕ) (o : Option (List ℕ)) → is_some o ≡ true → is_some (cond b (Some v) o) ≡ true
-kept-some true v o e = refl
-kept-some false v o e = e
-
-or_either : (x y : Bool) → (x || y) ≡ true → (x ≡ true) ⊎ (y ≡ true)
-or_either true y e = inl refl
-or_either false y e = inr e
-
 -- a required tag has a value
 with_value : (ss : List Slot) (fs : List FieldValue) (n : ℕ) → tag_fault ss fs ≡ None → demands n ss ≡ true → is_some (value_of n fs) ≡ true
-with_value [] fs n e d = absurd (false≢true d)
+with_value [] fs n e d = cc
 with_value (s ∷ ss) [] n e d =
-    let a = absent_none s (tag_fault ss []) e in
-    with_value ss [] n a.1 (demands_later (is_required s) (eqb (number_of (slot_tag s)) n) (demands n ss) a.0 d)
+    let a = with_value ss [] n in
+    grind (arith, nat_tests, absent_none)
 with_value (s ∷ ss) (f ∷ fs) n e d =
-    let m = number_of (slot_tag s) in
-    let passed : Option ℕ = absent s (tag_fault ss (f ∷ fs)) in
-    let missed : Option ℕ = cond (ltb f.tag m) (Some f.tag) passed in
-    ⊎_elim (λ (q : eqb f.tag m ≡ true).
-    ⊎_elim (λ (x : (is_required s && eqb m n) ≡ true).
-    let y : f.tag ≡ n = eqb-true f.tag m q ∙ eqb-true m n (and_parts (is_required s) (eqb m n) x).1 in
-    ap is_some (cond-true (eqb f.tag n) (Some f.value) (value_of n fs) (eq-eqb f.tag n y)))
-    (λ (x : demands n ss ≡ true).
-    kept-some (eqb f.tag n) f.value (value_of n fs) (with_value ss fs n (sym (cond-true (eqb f.tag m) (tag_fault ss fs) missed q) ∙ e) x))
-    (or_either (is_required s && eqb m n) (demands n ss) d))
-    (λ (q : eqb f.tag m ≡ false).
-    let r : missed ≡ None = sym (cond-false (eqb f.tag m) (tag_fault ss fs) missed q) ∙ e in
-    ⊎_elim (λ (l : ltb f.tag m ≡ true).
-    let z : Some f.tag ≡ None = sym (cond-true (ltb f.tag m) (Some f.tag) passed l) ∙ r in
-    cc)
-    (λ (l : ltb f.tag m ≡ false).
-    let a = absent_none s (tag_fault ss (f ∷ fs)) (sym (cond-false (ltb f.tag m) (Some f.tag) passed l) ∙ r) in
-    with_value ss (f ∷ fs) n a.1 (demands_later (is_required s) (eqb m n) (demands n ss) a.0 d))
-    (cases_Bool (ltb f.tag m)))
-    (cases_Bool (eqb f.tag m))
+    let a = with_value ss fs n in
+    let b = with_value ss (f ∷ fs) n in
+    grind (arith, nat_tests, absent_none)
 
 -- block n of a message of this kind has to have the tag with the number t
 abbrev pub demanded : Kind → ℕ → ℕ → Bool

@@ -16,9 +16,9 @@ use values::kind::Kind;
 /// The first refusal by each of the checks 3 to 5, over all blocks.
 #[derive(Clone, Copy, Debug, Default, PartialEq, Eq)]
 pub(crate) struct Findings {
-    pub layout: Option<Refusal>,
-    pub tags: Option<Refusal>,
-    pub values: Option<Refusal>,
+    layout: Option<Refusal>,
+    tags: Option<Refusal>,
+    values: Option<Refusal>,
 }
 
 impl Findings {

@@ -1,4 +1,4 @@
-//! Messages: their kinds, the fields of their blocks, and reading.
+//! Messages: the fields that their blocks have, and reading.
 #![tactic(auto)]
 
 mod findings;

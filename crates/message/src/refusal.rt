@@ -8,7 +8,9 @@ use std::fmt;
 /// Which layer of checks a refusal belongs to.
 #[derive(Clone, Copy, Debug, PartialEq, Eq)]
 pub enum Layer {
+    /// Whole blocks, with their checks and their layouts.
     Blocks,
+    /// The tags and the values of fields.
     Fields,
 }
 
