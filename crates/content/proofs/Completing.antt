@@ -23,8 +23,8 @@ use Rattle.message.proofs.Presence.{demanded, present, Fit, fit_value}
 use Rattle.message.proofs.Forms.{unless_ok}
 use Rattle.message.proofs.Gathering.{located_none}
 use Rattle.content.specs.Records.{request, recall, report, reply, requested, recalled}
-use Rattle.items.specs.Items.{read_raw_identifier, byte_in, identifier_in, member_code_in, uetr_in, end_to_end_in, amount_in}
-use Rattle.content.specs.Items.{number_in, creation_date_in, status_in, reason_in, text_in}
+use Rattle.items.specs.Items.{read_raw_identifier, identifier_in, member_code_in, uetr_in, end_to_end_in, amount_in}
+use Rattle.content.specs.Items.{number_in, creation_date_in}
 use Rattle.content.specs.Decoding.{original_in, purpose_in, header_in, answer_in, detail_in, transaction_in, transactions_in, header_kind, content_of, content_in, decoded}
 use Rattle.block.proofs.Chaining.{given-some}
 use Rattle.content.proofs.Fronts.{read_holds}

@@ -27,6 +27,7 @@ pub const MOST: usize = 16;
 #[derive(Clone, Copy)]
 pub struct Content {
     pub header: Header,
+    // An array with a count: there is no heap below the program, and a content can be copied.
     transactions: [Transaction; MOST],
     count: usize,
 }
@@ -37,8 +38,7 @@ impl Content {
         ensures value { result.now ≡ take self.now.count self.now.transactions }
         ensures most { length result.now ≤ 16 }
     {
-        let all = &self.transactions[..];
-        &all[0..self.count.min(MOST)]
+        &self.transactions[..self.count.min(MOST)]
     }
 }
 
@@ -60,35 +60,30 @@ fn read_kind(block: &[u8]) -> Option<Kind>
     Kind::try_from(item::<u8>(block, Tag::Kind)?).ok()
 }
 
-/// What the blocks behind the header say, and how many they are.
-fn read_transactions(kind: Kind, bytes: &[u8]) -> Option<([Transaction; MOST], usize)>
-    requires { length bytes.now ≤ 8192 }
-    ensures { option_map (λ found. transactions_view found.0 found.1) result ≡ transactions_in kind (map fields_of (blocks_of bytes.now)) }
+/// What the blocks behind the header say.
+fn read_transactions(kind: Kind, blocks: &[[u8; BLOCK]]) -> Option<[Transaction; MOST]>
+    requires { length blocks.now ≤ 16 }
+    ensures { option_map (λ found. transactions_view found (length blocks.now)) result ≡ transactions_in kind (map fields_of blocks.now) }
 {
     let mut transactions = [vacant(); MOST];
-    let mut count = 0;
-    let mut rest = bytes;
-    while let Some((block, more)) = rest.split_first_chunk::<BLOCK>() {
-        transactions[count] = read_transaction(kind, block)?;
-        count += 1;
-        rest = more;
+    for (at, block) in blocks.iter().enumerate() {
+        transactions[at] = read_transaction(kind, block)?;
     }
-    Some((transactions, count))
+    Some(transactions)
 }
 
 /// What blocks say, of which the first is the header.
-fn read_blocks(bytes: &[u8]) -> Option<Content>
-    requires { length bytes.now ≤ 8704 }
-    ensures { option_map content_view result ≡ content_in (map fields_of (blocks_of bytes.now)) }
+#[tactic(auto, unfolding(crate::specs::Decoding::content_in))]
+fn read_blocks(blocks: &[[u8; BLOCK]]) -> Option<Content>
+    requires { length blocks.now ≤ 17 }
+    ensures { option_map content_view result ≡ content_in (map fields_of blocks.now) }
 {
-    let (block, rest) = bytes.split_first_chunk::<BLOCK>()?;
-    let kind = read_kind(block)?;
-    let header = read_header(kind, block)?;
-    let (transactions, count) = read_transactions(kind, rest)?;
+    let (header, transactions) = blocks.split_first()?;
+    let kind = read_kind(header)?;
     Some(Content {
-        header,
-        transactions,
-        count,
+        header: read_header(kind, header)?,
+        transactions: read_transactions(kind, transactions)?,
+        count: transactions.len(),
     })
 }
 
@@ -99,7 +94,7 @@ pub fn decode(message: &ReadMessage<'_>) -> Option<Content>
 {
     let bytes = message.bytes();
     match read(bytes) {
-        Ok(_) => read_blocks(bytes),
+        Ok(_) => read_blocks(bytes.as_chunks::<BLOCK>().0),
         Err(_) => None,
     }
 }

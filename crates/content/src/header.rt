@@ -15,6 +15,7 @@ use values::member_code::MemberCode;
 /// The original that a recall or an answer names: the number of its kind, and its identifier, neither of them judged.
 #[derive(Clone, Copy)]
 pub struct Original {
+    // A plain number: reading does not judge it, so it may be that of no kind.
     pub kind: u8,
     pub identifier: [u8; 20],
 }
@@ -59,10 +60,9 @@ fn read_purpose(kind: Kind, block: &[u8]) -> Option<Purpose>
     ensures { option_map purpose_view result ≡ purpose_in kind (fields_of block.now) }
 {
     match kind {
-        Kind::Request => {
-            let debtor_agent = item(block, Tag::DebtorAgent)?;
-            Some(Purpose::Request { debtor_agent })
-        }
+        Kind::Request => item(block, Tag::DebtorAgent).map(|debtor_agent| Purpose::Request {
+            debtor_agent,
+        }),
         Kind::Recall => read_original(block).map(Purpose::Recall),
         Kind::Report => read_original(block).map(Purpose::Report),
         Kind::Reply => read_original(block).map(Purpose::Reply),

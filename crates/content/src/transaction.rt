@@ -60,18 +60,11 @@ fn read_detail(kind: Kind, block: &[u8]) -> Option<Detail>
     ensures { option_map detail_view result ≡ detail_in kind (fields_of block.now) }
 {
     match kind {
-        Kind::Request => {
-            let amount = item(block, Tag::Amount)?;
-            let creditor_agent = item(block, Tag::CreditorAgent)?;
-            Some(Detail::Request {
-                amount,
-                creditor_agent,
-            })
-        }
-        Kind::Recall => {
-            let amount = item(block, Tag::Amount)?;
-            Some(Detail::Recall { amount })
-        }
+        Kind::Request => Some(Detail::Request {
+            amount: item(block, Tag::Amount)?,
+            creditor_agent: item(block, Tag::CreditorAgent)?,
+        }),
+        Kind::Recall => item(block, Tag::Amount).map(|amount| Detail::Recall { amount }),
         Kind::Report | Kind::Reply => read_answer(block),
     }
 }
