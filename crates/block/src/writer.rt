@@ -90,7 +90,7 @@ fn last_field(block: &[u8; BLOCK], last: usize) -> (u8, usize)
 {
     match block[last] {
         0 => (0, 0),
-        tag => (tag, last + 2 + usize::from(block[last + 1])),
+        tag => (tag, last + 2 + block[last + 1] as usize),
     }
 }
 
