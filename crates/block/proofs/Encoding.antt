@@ -1,5 +1,5 @@
 -- Fields and the bytes that they are written as: one field more, how many bytes they take, and how they are found again.
-use Rattle.std.proofs.Common.{◌≡◌, ℕ, zero, suc, ◌+◌, ◌<◌, ◌≤◌, Bool, true, false, ◌&&◌, eqb, leb, List, [], ◌∷◌, ◌++◌, length, get_or, replicate, Some, None, Option, sym, refl, ap, ◌∙◌, ⊎_elim, not-suc-le-zero, arith, lit<}
+use Rattle.std.proofs.Common.{◌≡◌, ℕ, zero, suc, ◌+◌, ◌<◌, ◌≤◌, Bool, true, false, ◌&&◌, eqb, leb, List, [], ◌∷◌, ◌++◌, length, get_or, Some, None, Option, sym, refl, ap, ◌∙◌, ⊎_elim, not-suc-le-zero, arith, lit<}
 use Rattle.std.proofs.lemmas.List.{append_assoc, append-nil, length-append, take_at, drop_at, get_or_past}
 use Rattle.std.proofs.lemmas.Bool.{ne_eqb, leb-true, and_parts, cases_lt, false≢true}
 use Rattle.tags.specs.declared.listing.Rule.{Rule}
@@ -104,9 +104,3 @@ parsed-encoded p (suc k) (f ∷ fs) ys o l h =
     let n = length-append f.value (encoded fs) in
     let le : length (encoded fs) ≤ k = omega arith in
     rw (ne, append_assoc f.value (encoded fs) ys, take_at f.value (encoded fs ++ ys) (length f.value) refl, drop_at f.value (encoded fs ++ ys) (length f.value) refl, parsed-encoded f.tag k fs ys o l.2 le)
-
-pub parsed-zeros : (z k : ℕ) → parsed k (replicate z 0) ≡ []
-parsed-zeros z zero = refl
-parsed-zeros zero (suc k) = refl
-parsed-zeros (suc zero) (suc k) = refl
-parsed-zeros (suc (suc z)) (suc k) = refl

@@ -59,16 +59,21 @@ module _ (body : List ℕ) (n : length body ≡ 510) where
   unfolding checks
   checks-closed = eq-eqb _ _ (ap (λ x. x * 256 + get_or (closed body) 511 0) high_byte ∙ ap (λ x. check body / 256 * 256 + x) low_byte ∙ div-add-mod' (check body) 256 ∙ sym check-closed)
 
+-- a block whose first 510 bytes are legal fields and zeros is laid out as those fields
+pub laid_out : (b : List ℕ) (fs : List FieldValue) → take 510 b ≡ padded 510 (encoded fs) → Legal 0 fs → layout b ≡ Ok fs
+unfolding layout fields_from padded
+laid_out b fs e l =
+    let s = encoded_bound fs l in
+    let m = length-append (encoded fs) (replicate (510 - length (encoded fs)) 0) in
+    ap (fields_from 0 0) e ∙ scanned-encoded (length (padded 510 (encoded fs))) 0 0 (510 - length (encoded fs)) fs l (omega arith)
+
 -- legal fields are written as a block that reads as those fields
 pub reads_back : (fs : List FieldValue) → Legal 0 fs → reading (block_of fs) ≡ Ok fs
-unfolding reading block_of layout fields_from padded
+unfolding reading block_of
 reads_back fs l =
     let s = encoded_bound fs l in
     let n = length-padded 510 (encoded fs) (omega arith) in
-    let m = length-append (encoded fs) (replicate (510 - length (encoded fs)) 0) in
-    cond-true (checks (block_of fs)) _ _ (checks-closed (padded 510 (encoded fs)) n)
-    ∙ ap (fields_from 0 0) (take-closed (padded 510 (encoded fs)) n)
-    ∙ scanned-encoded (length (padded 510 (encoded fs))) 0 0 (510 - length (encoded fs)) fs l (omega arith)
+    cond-true (checks (block_of fs)) _ _ (checks-closed (padded 510 (encoded fs)) n) ∙ laid_out (block_of fs) fs (take-closed (padded 510 (encoded fs)) n) l
 
 -- bytes that hold fields are the bytes of those fields, which are legal, and z zeros
 Holds : ℕ → List ℕ → List FieldValue → Type 0
@@ -141,7 +146,8 @@ reading_parts b fs e =
     (λ (t : checks b ≡ false). let q : Err WrongCheck ≡ Ok fs = rw t at e in absurd (let z : ◌≡◌ {A = ℕ} 0 1 = cc in omega arith))
     (cases_Bool (checks b))
 
-two_ends : (b : List ℕ) → length b ≡ 512 → b ≡ take 510 b ++ get_or b 510 0 ∷ get_or b 511 0 ∷ []
+-- a block by its body and its last two bytes
+pub two_ends : (b : List ℕ) → length b ≡ 512 → b ≡ take 510 b ++ get_or b 510 0 ∷ get_or b 511 0 ∷ []
 two_ends b n =
     sym (take-append-drop 510 b)
     ∙ ap (λ x. take 510 b ++ x)

@@ -1,6 +1,6 @@
 -- The steps of the two readers, at bytes as the code sees them.
 use Rattle.std.proofs.Common.{◌≡◌, ℕ, zero, suc, ◌+◌, ◌-◌, ◌<◌, ◌≤◌, min, true, false, cond, ◌&&◌, eqb, ltb, leb, List, [], ◌∷◌, length, get_or, take, drop, Some, Ok, Err, sym, refl, ap, ◌∙◌, ⊎_elim, not-suc-le-zero, arith}
-use Rattle.std.proofs.lemmas.List.{length-drop, at_drop_more, at_drop_all, take_rest, take_all, drop_all}
+use Rattle.std.proofs.lemmas.List.{length-drop, take_rest, take_all, drop_all}
 use Rattle.std.proofs.lemmas.Bool.{ne_eqb, eq-eqb, cases_Bool, cases_lt, lt-ltb, le-ltb, le-leb, lt-leb, and_from, and_left, and_right}
 use Rattle.tags.specs.declared.faults.BlockFault.{BlockFault}
 use Rattle.tags.specs.declared.faults.BlockFault.TheVariants.{BrokenLayout}
@@ -83,20 +83,24 @@ module _ (at p : ℕ) where
   fields_from_fault (t ∷ []) h n f = absurd (omega arith)
   fields_from_fault (t ∷ l ∷ bs) h n f = rw (ne_eqb t 0 n, f)
 
--- zeros to the end, from the i-th byte on
-module _ (xs : List ℕ) (i at : ℕ) where
-  pub blank_stops : i < length xs → (get_or xs i 0 ≡ 0 → ⊥) → blank at (drop i xs) ≡ Err (BrokenLayout at)
-  blank_stops h n =
-      let e : blank at (drop i xs) ≡ cond (eqb (get_or xs i 0) 0) (blank (at + 1) (drop (i + 1) xs)) (Err (BrokenLayout at)) = at_drop_more (blank at) xs i 0 h in
-      e ∙ rw (ne_eqb (get_or xs i 0) 0 n)
+-- the first byte that is not zero
+pub blank_stops : (at : ℕ) (xs : List ℕ) (i : ℕ) → i < length xs → (get_or xs i 0 ≡ 0 → ⊥) → ((k : ℕ) → k < i → get_or xs k 0 ≡ 0) → blank at xs ≡ Err (BrokenLayout (at + i))
+blank_stops at [] i h n z = absurd (omega arith)
+blank_stops at (x ∷ xs) zero h n z = rw (ne_eqb x 0 n) (ap (λ m. Err (BrokenLayout m)) (omega arith))
+blank_stops at (x ∷ xs) (suc i) h n z =
+    rw (eq-eqb x 0 (z 0 (omega arith)))
+    (blank_stops (at + 1) xs i (omega arith) n (λ k l. z (suc k) (omega arith)) ∙ ap (λ m. Err (BrokenLayout m)) (omega arith))
 
-  pub blank_goes_on : i < length xs → get_or xs i 0 ≡ 0 → blank at (drop i xs) ≡ blank (at + 1) (drop (i + 1) xs)
-  blank_goes_on h n =
-      let e : blank at (drop i xs) ≡ cond (eqb (get_or xs i 0) 0) (blank (at + 1) (drop (i + 1) xs)) (Err (BrokenLayout at)) = at_drop_more (blank at) xs i 0 h in
-      e ∙ rw (eq-eqb (get_or xs i 0) 0 n)
+-- nothing but zeros
+pub blank_ends : (at : ℕ) (xs : List ℕ) → ((k : ℕ) → k < length xs → get_or xs k 0 ≡ 0) → blank at xs ≡ Ok []
+blank_ends at [] z = refl
+blank_ends at (x ∷ xs) z = rw (eq-eqb x 0 (z 0 (omega arith))) (blank_ends (at + 1) xs (λ k l. z (suc k) (omega arith)))
 
-  pub blank_ends : length xs ≤ i → blank at (drop i xs) ≡ Ok []
-  blank_ends h = at_drop_all (blank at) xs i h
+-- no byte, no fault
+pub fault_left : (at p : ℕ) (xs : List ℕ) (e : BlockFault) → fields_from at p xs ≡ Err e → 0 < length xs
+unfolding fields_from
+fault_left at p [] e q = absurd (let z : ◌≡◌ {A = ℕ} 0 1 = cc in omega arith)
+fault_left at p (x ∷ xs) e q = omega arith
 
 -- what the answer of a test for zeros says of the bytes
 pub judged_fault : (v : Reading) (e : BlockFault) → Err e ≡ judged v → v ≡ Err e

@@ -49,3 +49,9 @@ abbrev pub Steps : Fields → Result (Option Part) BlockFault → Fields → Typ
 Steps f (Ok None) g = (ahead f ≡ Ok []) × (g ≡ f)
 Steps f (Ok (Some p)) g = Gave f p g
 Steps f (Err e) g = (ahead f ≡ Err e) × (g ≡ f)
+
+-- what the iterator gives, and how it stands then: where the layout breaks, nothing more comes
+abbrev pub Gives : Fields → Option (Result Part BlockFault) → Fields → Type 0
+Gives f None g = (ahead f ≡ Ok []) × (g ≡ f)
+Gives f (Some (Ok p)) g = Gave f p g
+Gives f (Some (Err e)) g = (ahead f ≡ Err e) × (ahead g ≡ Ok [])

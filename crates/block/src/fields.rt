@@ -4,7 +4,7 @@ ghost use Rattle.std.specs.Prelude.{◌≡◌, ◌+◌, length};
 use tags::listing::Tag;
 
 /// The value of a field: the bytes of an identifier, a code, a text or a number, where they lie in the message.
-#[derive(Clone, Copy)]
+#[derive(Clone, Copy, Debug, PartialEq, Eq)]
 pub enum Field<'a> {
     Identifier(&'a [u8]),
     Code(&'a [u8]),
@@ -13,7 +13,7 @@ pub enum Field<'a> {
 }
 
 /// A field that was read: a part of the message, known by its block and by the byte of its tag.
-#[derive(Clone, Copy)]
+#[derive(Clone, Copy, Debug, PartialEq, Eq)]
 pub struct Part<'a> {
     pub block: u8,
     pub at: u16,

@@ -54,8 +54,8 @@ impl<'a> Fields<'a> {
         }
     }
 
-    /// The next field, nothing behind the last one, or where the layout breaks.
-    pub fn next(&mut self) -> Result<Option<Part<'a>>, BlockFault>
+    /// Reads the next field, nothing behind the last one, or where the layout breaks.
+    pub fn read(&mut self) -> Result<Option<Part<'a>>, BlockFault>
         ensures { Steps self.old result self.new }
     {
         match self.rest {
@@ -87,19 +87,39 @@ impl<'a> Fields<'a> {
     }
 }
 
+/// The fields in turn, and where the layout breaks, behind which nothing comes.
+impl<'a> Iterator for Fields<'a> {
+    type Item = Result<Part<'a>, BlockFault>;
+
+    ghost use Rattle.std.specs.Prelude.{length};
+    ghost use Rattle.std.specs.Iterator.{at_most};
+    ghost use Rattle.block.specs.Reader.{Gives};
+
+    ghost next_gives = { Gives };
+
+    ghost remaining = { λ f. at_most (length f.rest.now) };
+
+    fn next(&mut self) -> Option<Self::Item> {
+        match self.read() {
+            Ok(part) => part.map(Ok),
+            Err(fault) => {
+                self.rest = &[];
+                self.at = BODY as u16;
+                Some(Err(fault))
+            }
+        }
+    }
+}
+
 /// The bytes are zeros, or the layout breaks at the first that is not; the first byte stands at `at`.
 fn all_zeros(bytes: &[u8], at: u16) -> Result<(), BlockFault>
     requires { at + length bytes.now ≡ 510 }
     ensures { result ≡ judged (blank at bytes.now) }
 {
-    let mut here = at;
-    for byte in bytes {
-        if *byte != 0 {
-            return Err(BlockFault::BrokenLayout(here));
-        }
-        here += 1;
+    match bytes.iter().position(|byte| *byte != 0) {
+        Some(place) => Err(BlockFault::BrokenLayout(at + place as u16)),
+        None => Ok(()),
     }
-    Ok(())
 }
 
 /// Whether a block reads: its check is judged first, then its layout. No other block reads with its fields.
@@ -110,8 +130,9 @@ pub fn judge(block: &[u8; BLOCK]) -> Result<(), BlockFault>
     if !has_check(block) {
         return Err(BlockFault::WrongCheck);
     }
-    let mut fields = Fields::of(block, 0);
-    while let Some(_) = fields.next()? {}
+    for field in Fields::of(block, 0) {
+        field?;
+    }
     Ok(())
 }
 

@@ -1,8 +1,9 @@
-use Rattle.std.proofs.Common.{[], refl}
-use Rattle.block.specs.Block.{padded}
-use Rattle.block.proofs.Laying.{sound_from, written_is}
+use Rattle.std.proofs.Common.{lit<}
+use Rattle.block.proofs.Drafting.{zeros_sound, zeros_empty}
 use Rattle.block.proofs.writer.BlockWriter.new.Goals as goal
 
-pub returns : goal.returns
-unfolding padded
-returns c = record { sound = sound_from _ [] refl refl refl tt; fields = written_is _ [] refl tt; named = refl }
+pub invariant_of-result : goal.invariant_of-result
+invariant_of-result c = record { sound = zeros_sound 0 (lit< tt) }
+
+pub returns-clause-fields : goal.returns-clause-fields
+returns-clause-fields c = zeros_empty

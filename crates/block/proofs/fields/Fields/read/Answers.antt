@@ -7,8 +7,8 @@ use Rattle.block.specs.Reading.{fields_from, may_stand, blank, led}
 use Rattle.block.specs.Reader.{ahead, bytes_of}
 use Rattle.block.proofs.Putting.{listed_by_none, listed_by_rule}
 use Rattle.block.proofs.Scanning.{fields_from-short, fields_from-end, fields_from-more, fields_from_fault, stands, stands_low, stands_unlisted, stands_long, judged_fault, judged_blank}
-use Rattle.block.proofs.fields.Fields.next.Goals as goal
-use Rattle.block.proofs.fields.Fields.next.Goals.{then-tag-self-via-then-tag-self, then-tag-self-via-else-tag-self+then-not-admits, then-tag-self-via-else-tag-self+else-not-admits+then-tail-n, in_default-via-then-self-lt2, in_default-via-in-len2-up+else-tag-ne0}
+use Rattle.block.proofs.fields.Fields.read.Goals as goal
+use Rattle.block.proofs.fields.Fields.read.Goals.{then-tag-self-via-then-tag-self, then-tag-self-via-else-tag-self+then-not-admits, then-tag-self-via-else-tag-self+else-not-admits+then-tail-n, in_default-via-then-self-lt2, in_default-via-in-len2-up+else-tag-ne0}
 
 pub returns-in_default-rule_of : goal.returns-in_default-rule_of
 returns-in_default-rule_of c =
