@@ -1,10 +1,17 @@
 -- The numbers under which kinds and states are written.
 use Rattle.std.specs.Prelude.{ℕ, cond, List, Some, None, Option, ◌==◌}
+use Rattle.values.specs.declared.kind.Kind.{Kind}
+use Rattle.values.specs.declared.kind.Kind.TheVariants as kind
 use Rattle.cases.specs.declared.case.OriginalKind.{OriginalKind}
 use Rattle.cases.specs.declared.case.OriginalKind.TheVariants.{CustomerTransfer, InstitutionTransfer, Request}
 use Rattle.cases.specs.Cases.{SubjectValue, request, recall, StateValue, opened, pending, agreed, declined, withdrawn}
 
--- the kind of the message that opens a case: a request is 13, a recall 56
+-- the kind of the message that opens a case
+abbrev pub subject_kind : SubjectValue → Kind
+subject_kind request = kind.Request
+subject_kind (recall k id) = kind.Recall
+
+-- the number of that kind: a request is 13, a recall 56
 abbrev pub subject_number : SubjectValue → ℕ
 subject_number request = 13
 subject_number (recall kind id) = 56

@@ -4,7 +4,6 @@ ghost use Rattle.cases.specs.Cases.{same_name};
 ghost use Rattle.cases.specs.Views.{name_view, view};
 ghost use Rattle.cases.specs.Vacant.{vacant};
 
-use octets::same_bytes;
 use table::Row;
 use values::amount::Amount;
 use values::identifier::Identifier;
@@ -13,32 +12,32 @@ use values::text::EndToEnd;
 use values::uetr::Uetr;
 
 /// The name of a case: the identifier of the message that opened it, and the reference of its transaction.
-#[derive(Clone, Copy)]
+#[derive(Clone, Copy, PartialEq, Eq)]
 pub struct CaseName {
     pub identifier: Identifier,
     pub uetr: Uetr,
 }
 
-/// What a recall may be of.
-#[derive(Clone, Copy)]
+/// What a recall may be of, by its number.
+#[derive(Clone, Copy, Debug, PartialEq, Eq)]
 pub enum OriginalKind {
     /// A customer's payment (pacs.008).
-    CustomerTransfer,
+    CustomerTransfer = 8,
     /// A payment of an institution's own (pacs.009).
-    InstitutionTransfer,
+    InstitutionTransfer = 9,
     /// A request to pay (pain.013).
-    Request,
+    Request = 13,
 }
 
 /// The original of a recall: its kind and its identifier.
-#[derive(Clone, Copy)]
+#[derive(Clone, Copy, PartialEq, Eq)]
 pub struct Original {
     pub kind: OriginalKind,
     pub identifier: Identifier,
 }
 
 /// What a case is about.
-#[derive(Clone, Copy)]
+#[derive(Clone, Copy, PartialEq, Eq)]
 pub enum Subject {
     /// A request to pay.
     Request,
@@ -47,7 +46,7 @@ pub enum Subject {
 }
 
 /// How far a case has come. A closed case holds the identifier of the message that closed it.
-#[derive(Clone, Copy)]
+#[derive(Clone, Copy, PartialEq, Eq)]
 pub enum State {
     Open,
     Pending,
@@ -57,7 +56,7 @@ pub enum State {
 }
 
 /// A case.
-#[derive(Clone, Copy)]
+#[derive(Clone, Copy, PartialEq, Eq)]
 pub struct Case {
     pub name: CaseName,
     pub subject: Subject,
@@ -73,8 +72,7 @@ impl CaseName {
     pub fn is(&self, other: &CaseName) -> bool
         ensures { result ≡ same_name (name_view self.now) (name_view other.now) }
     {
-        same_bytes(&self.identifier.bytes, &other.identifier.bytes)
-            && same_bytes(&self.uetr.bytes, &other.uetr.bytes)
+        self == other
     }
 }
 

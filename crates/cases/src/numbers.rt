@@ -1,20 +1,48 @@
 //! The numbers under which kinds and states are written.
 ghost use Rattle.std.specs.Prelude.{◌≡◌};
 ghost use Rattle.std.specs.Option.{option_map};
-ghost use Rattle.cases.specs.Numbers.{subject_number, original_number, original_of, state_number, state_of, closing_of};
+ghost use Rattle.std.specs.Result.{result_ok};
+ghost use Rattle.cases.specs.Numbers.{subject_kind, subject_number, original_number, original_of, state_number, state_of, closing_of};
 ghost use Rattle.cases.specs.Views.{subject_view, state_view};
 
 use crate::case::{OriginalKind, State, Subject};
 use values::identifier::Identifier;
+use values::kind::Kind;
+
+/// A number that no kind of original has.
+#[derive(Clone, Copy, Debug, PartialEq, Eq)]
+pub struct UnknownOriginal(pub u8);
 
 impl Subject {
-    /// The kind of the message that opens such a case: 13 or 56.
+    /// The kind of the message that opens such a case: a request or a recall.
+    pub fn kind(&self) -> Kind
+        ensures { result ≡ subject_kind (subject_view self.now) }
+    {
+        match self {
+            Subject::Request => Kind::Request,
+            Subject::Recall(_) => Kind::Recall,
+        }
+    }
+
+    /// The number of that kind: 13 or 56.
     pub fn number(&self) -> u8
         ensures { result ≡ subject_number (subject_view self.now) }
     {
-        match *self {
-            Subject::Request => 13,
-            Subject::Recall(_) => 56,
+        self.kind().number()
+    }
+}
+
+impl TryFrom<u8> for OriginalKind {
+    type Error = UnknownOriginal;
+
+    ghost try_from_gives = { λ number r. result_ok r ≡ original_of number };
+
+    fn try_from(number: u8) -> Result<OriginalKind, UnknownOriginal> {
+        match number {
+            8 => Ok(OriginalKind::CustomerTransfer),
+            9 => Ok(OriginalKind::InstitutionTransfer),
+            13 => Ok(OriginalKind::Request),
+            _ => Err(UnknownOriginal(number)),
         }
     }
 }
@@ -24,23 +52,7 @@ impl OriginalKind {
     pub fn number(self) -> u8
         ensures { result ≡ original_number self }
     {
-        match self {
-            OriginalKind::CustomerTransfer => 8,
-            OriginalKind::InstitutionTransfer => 9,
-            OriginalKind::Request => 13,
-        }
-    }
-
-    /// The kind with this number.
-    pub fn read(number: u8) -> Option<OriginalKind>
-        ensures { result ≡ original_of number }
-    {
-        match number {
-            8 => Some(OriginalKind::CustomerTransfer),
-            9 => Some(OriginalKind::InstitutionTransfer),
-            13 => Some(OriginalKind::Request),
-            _ => None,
-        }
+        self as u8
     }
 }
 
@@ -49,6 +61,7 @@ impl State {
     pub fn number(&self) -> u8
         ensures { result ≡ state_number (state_view self.now) }
     {
+        // A state that holds an identifier has no discriminant to cast, so the numbers stand here.
         match *self {
             State::Open => 1,
             State::Pending => 2,
@@ -74,6 +87,7 @@ impl State {
     pub fn read(number: u8, closing: Option<Identifier>) -> Option<State>
         ensures { option_map state_view result ≡ state_of number (option_map (λ i. i.bytes) closing) }
     {
+        // Both decide together; a conversion from a pair of them would be no plainer.
         match (number, closing) {
             (1, None) => Some(State::Open),
             (2, None) => Some(State::Pending),

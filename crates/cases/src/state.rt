@@ -8,7 +8,7 @@ use crate::case::{Case, State};
 use values::identifier::Identifier;
 
 /// The status that an answer gives, by its ISO code.
-#[derive(Clone, Copy)]
+#[derive(Clone, Copy, Debug, PartialEq, Eq)]
 pub enum Status {
     /// ACCP: the request is accepted.
     Accepted,

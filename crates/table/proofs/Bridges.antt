@@ -1,25 +1,33 @@
 -- Lists by test and by place: how the one way of speaking goes over into the other, over any list.
-use Rattle.std.proofs.Common.{◌≡◌, ℕ, zero, suc, ◌+◌, ◌<◌, ◌≤◌, Bool, true, false, cond, ◌||◌, List, [], ◌∷◌, ◌++◌, map, length, get_or, take, drop, set, is_some, Some, None, Option, sym, refl, ap, ◌∙◌, ⊎_elim, add-one, arith}
-use Rattle.std.specs.List.{slice_get, AllByRecursion}
+use Rattle.std.proofs.Common.{◌≡◌, ℕ, zero, suc, ◌+◌, ◌<◌, ◌≤◌, Bool, true, false, cond, ltb, not, ◌||◌, List, [], ◌∷◌, ◌++◌, map, length, get_or, take, drop, set, is_some, Some, None, Option, sym, refl, ap, ◌∙◌, ⊎_elim, add-one, arith}
+use Rattle.std.specs.List.{slice_get, position, position_or_len, AllByRecursion}
 use Rattle.std.specs.Option.{option_map}
-use Rattle.std.proofs.lemmas.List.{take_more, drop_more, length-map, length-take}
-use Rattle.std.proofs.lemmas.Option.{slice_get-get_or}
-use Rattle.std.proofs.lemmas.Bool.{cond-true, cond-false, cases_Bool, true≢false}
-use Rattle.table.specs.declared.Table.{Table}
+use Rattle.std.proofs.lemmas.List.{take_more, drop_more, length-map}
+use Rattle.std.proofs.lemmas.Option.{slice_get-get_or, slice_get_within, slice_get_cases}
+use Rattle.std.proofs.lemmas.Bool.{cond-true, cond-false, lt-ltb, cases_Bool, true≢false}
+use Rattle.std.proofs.lemmas.Grind.{common_steps}
 use Rattle.table.specs.Lists.{place, first, any, alter, at_place, alter_at, alter_if}
-use Rattle.table.specs.Meaning.{rows_of, limit_of}
+use Rattle.table.specs.Value.{TableValue}
+use Rattle.table.specs.Meaning.{limit_of}
 
 -- Where a test first passes.
 
 module _ {X : Type 0} (test : X → Bool) where
-  pub place_at : (xs : List X) (i : ℕ) (d : X) → i < length xs → AllByRecursion (λ x. test x ≡ false) (take i xs) → test (get_or xs i d) ≡ true → place test xs ≡ Some i
-  place_at [] i d h a t = absurd (omega arith)
-  place_at (x ∷ xs) zero d h a t = cond-true (test x) _ _ t
-  place_at (x ∷ xs) (suc i) d h a t = cond-false (test x) _ _ a.0 ∙ ap (option_map suc) (place_at xs i d (omega arith) a.1 t)
-
   pub place_none : (xs : List X) → AllByRecursion (λ x. test x ≡ false) xs → place test xs ≡ None
   place_none [] a = refl
   place_none (x ∷ xs) a = cond-false (test x) _ _ a.0 ∙ ap (option_map suc) (place_none xs a.1)
+
+suc_position : (n i : ℕ) → option_map suc (cond (ltb i n) (Some i) None) ≡ cond (ltb (1 + i) (suc n)) (Some (1 + i)) None
+suc_position n i = grind (arith, common_steps)
+
+-- the place is what std calls the position
+pub place_position : {X : Type 0} (test : X → Bool) (xs : List X) → place test xs ≡ position test xs
+place_position test [] = refl
+place_position test (x ∷ xs) = go (test x) (place_position test xs)
+  where
+    go : (b : Bool) → place test xs ≡ position test xs → cond b (Some 0) (option_map suc (place test xs)) ≡ cond (ltb (cond (not b) (1 + position_or_len test xs) 0) (suc (length xs))) (Some (cond (not b) (1 + position_or_len test xs) 0)) None
+    go true e = sym (cond-true _ _ _ (lt-ltb 0 (suc (length xs)) (omega arith)))
+    go false e = ap (option_map suc) e ∙ suc_position (length xs) (position_or_len test xs)
 
 is_some_suc : (o : Option ℕ) → is_some (option_map suc o) ≡ is_some o
 is_some_suc None = refl
@@ -37,40 +45,22 @@ place_missed test (x ∷ xs) h =
 -- What stands at a place.
 
 module _ {X : Type 0} where
-  pub nth_within : (xs : List X) (i : ℕ) (x : X) → slice_get xs i ≡ Some x → i < length xs
-  nth_within [] i x e = let z : ◌≡◌ {A = ℕ} 0 1 = cc in omega arith
-  nth_within (y ∷ xs) zero x e = omega arith
-  nth_within (y ∷ xs) (suc i) x e = let h = nth_within xs i x e in omega arith
-
   pub nth_beyond : (xs : List X) (i : ℕ) → slice_get xs i ≡ None → length xs ≤ i
-  nth_beyond [] i e = omega arith
-  nth_beyond (y ∷ xs) zero e = let z : ◌≡◌ {A = ℕ} 0 1 = cc in omega arith
-  nth_beyond (y ∷ xs) (suc i) e = let h = nth_beyond xs i e in omega arith
+  nth_beyond xs i e = grind (arith, slice_get_cases)
 
   -- what is left from a place on begins with what stands there
   pub drop_nth : (xs : List X) (i : ℕ) (x : X) → slice_get xs i ≡ Some x → drop i xs ≡ x ∷ drop (i + 1) xs
   drop_nth xs i x e =
-      let h : i < length xs = nth_within xs i x e in
+      let h : i < length xs = slice_get_within xs i x e in
       let same : get_or xs i x ≡ x = let s = slice_get-get_or xs i x h in cc in
       drop_more xs i x h ∙ ap (λ y. y ∷ drop (i + 1) xs) same
 
   -- what stands up to a place ends with what stands there
   pub take_nth : (xs : List X) (i : ℕ) (x : X) → slice_get xs i ≡ Some x → take (i + 1) xs ≡ take i xs ++ x ∷ []
   take_nth xs i x e =
-      let h : i < length xs = nth_within xs i x e in
+      let h : i < length xs = slice_get_within xs i x e in
       let same : get_or xs i x ≡ x = let s = slice_get-get_or xs i x h in cc in
       take_more xs i x h ∙ ap (λ y. take i xs ++ y ∷ []) same
-
-  pub take_of_set : (n : ℕ) (xs : List X) (i : ℕ) (y : X) → take n (set xs i y) ≡ set (take n xs) i y
-  take_of_set zero xs i y = refl
-  take_of_set (suc n) [] i y = refl
-  take_of_set (suc n) (x ∷ xs) zero y = refl
-  take_of_set (suc n) (x ∷ xs) (suc i) y = ap (λ r. x ∷ r) (take_of_set n xs i y)
-
-  pub take-length : (n : ℕ) (xs : List X) → take (length (take n xs)) xs ≡ take n xs
-  take-length zero xs = refl
-  take-length (suc n) [] = refl
-  take-length (suc n) (x ∷ xs) = ap (λ r. x ∷ r) (take-length n xs)
 
 -- From the test to the place: what stands at the place found is the first that passes, and altering there alters it.
 
@@ -106,19 +96,14 @@ any_place test (x ∷ xs) = go (test x) (any_place test xs)
     go true e = refl
     go false e = e ∙ sym (is_some_suc (place test xs))
 
+-- what is asked by a test, in terms of the place
+pub ruleset by_place = (first-place, any_place)
+
 -- A list under two tests that agree, a list that is longer, or a list seen through a view.
 
 pub place_same : {X : Type 0} (f g : X → Bool) (xs : List X) → AllByRecursion (λ x. f x ≡ g x) xs → place f xs ≡ place g xs
 place_same f g [] a = refl
 place_same f g (x ∷ xs) a = ap (λ b. cond b (Some 0) (option_map suc (place f xs))) a.0 ∙ ap (λ p. cond (g x) (Some 0) (option_map suc p)) (place_same f g xs a.1)
-
-pub any_append : {X : Type 0} (test : X → Bool) (xs ys : List X) → any test (xs ++ ys) ≡ (any test xs || any test ys)
-any_append test [] ys = refl
-any_append test (x ∷ xs) ys = go (test x) (any_append test xs ys)
-  where
-    go : (b : Bool) → any test (xs ++ ys) ≡ (any test xs || any test ys) → (b || any test (xs ++ ys)) ≡ ((b || any test xs) || any test ys)
-    go true e = refl
-    go false e = e
 
 -- one more element of a list that is gone through by place
 pub any-more : {X : Type 0} (test : X → Bool) (xs : List X) (i : ℕ) (x : X) → slice_get xs i ≡ Some x → any test (drop i xs) ≡ (test x || any test (drop (i + 1) xs))
@@ -132,11 +117,6 @@ module _ {X Y : Type 0} (view : X → Y) where
   pub any-map : (test : Y → Bool) (xs : List X) → any test (map view xs) ≡ any (λ x. test (view x)) xs
   any-map test [] = refl
   any-map test (x ∷ xs) = ap (λ b. test (view x) || b) (any-map test xs)
-
-  pub nth-map : (xs : List X) (i : ℕ) → slice_get (map view xs) i ≡ option_map view (slice_get xs i)
-  nth-map [] i = refl
-  nth-map (x ∷ xs) zero = refl
-  nth-map (x ∷ xs) (suc i) = nth-map xs i
 
   pub first-map : (test : Y → Bool) (xs : List X) → first test (map view xs) ≡ option_map view (first (λ x. test (view x)) xs)
   first-map test [] = refl
@@ -176,5 +156,5 @@ module _ {X : Type 0} (f : X → X) where
   length-alter (x ∷ xs) (suc i) = ap suc (length-alter xs i)
 
 -- a table never has more rows than its limit, seen through any view
-pub rows_within : {X Y : Type 0} (view : X → Y) (t : Table X) → length (map view (rows_of t)) ≤ limit_of t
-rows_within view t = simp (length-map, length-take) (omega arith)
+pub rows_within : {X Y : Type 0} (view : X → Y) (t : TableValue X) → length (map view t.rows) ≤ limit_of t
+rows_within view t = simp length-map (omega arith)

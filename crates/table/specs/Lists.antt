@@ -1,19 +1,17 @@
 -- Two ways to speak of what stands in a list: by a test, which the first element that passes it answers to, and by a place.
-use Rattle.std.specs.Prelude.{ℕ, zero, suc, Bool, false, cond, ◌||◌, List, [], ◌∷◌, Some, None, Option}
-use Rattle.std.specs.List.{slice_get}
+use Rattle.std.specs.Prelude.{ℕ, zero, suc, Bool, cond, List, [], ◌∷◌, Some, None, Option}
+use Rattle.std.specs.List.{slice_get, find, list_any}
 use Rattle.std.specs.Option.{option_map}
 
 -- By a test.
 
 -- the first element that passes
 abbrev pub first : {X : Type 0} → (X → Bool) → List X → Option X
-first test [] = None
-first test (x ∷ xs) = cond (test x) (Some x) (first test xs)
+first test xs = find test xs
 
 -- some element passes
 abbrev pub any : {X : Type 0} → (X → Bool) → List X → Bool
-any test [] = false
-any test (x ∷ xs) = test x || any test xs
+any test xs = list_any test xs
 
 -- the list with the first element that passes altered by f
 abbrev pub alter : {X : Type 0} → (X → Bool) → (X → X) → List X → List X

@@ -1,16 +1,12 @@
--- What a table means, and what it answers.
-use Rattle.std.specs.Prelude.{ℕ, cond, List, length, take, Ok, Err, Result, nat_lt}
-use Rattle.table.specs.declared.Table.{Table}
+-- How many rows a table was lent, and what it answers.
+use Rattle.std.specs.Prelude.{ℕ, ◌+◌, cond, length, Ok, Err, Result, nat_lt}
+use Rattle.table.specs.Value.{TableValue}
 use Rattle.table.specs.declared.TableRefusal.{TableRefusal}
 use Rattle.table.specs.declared.TableRefusal.TheVariants.{NoRow, Full}
 
--- the rows that stand in a table: the first so many of the rows that it was lent
-abbrev pub rows_of : {R : Type 0} → Table R → List R
-rows_of t = take t.count t.rows.now
-
 -- how many rows it was lent
-abbrev pub limit_of : {R : Type 0} → Table R → ℕ
-limit_of t = length t.rows.now
+abbrev pub limit_of : {R : Type 0} → TableValue R → ℕ
+limit_of t = length t.rows + t.free
 
 -- what a table of n rows and this limit answers to a further row
 abbrev pub add_answer : ℕ → ℕ → Result (Unit {0}) TableRefusal
