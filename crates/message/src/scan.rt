@@ -102,12 +102,12 @@ fn unfit(tag: Tag, value: &[u8]) -> Option<u8>
 pub(crate) fn scan(block: &[u8; BLOCK], slots: &[Slot]) -> Result<Found, BlockFault>
     ensures { result ≡ report slots.now (layout block.now) }
 {
-    let mut fields = Fields::of(block, 0);
     let mut pass = Pass {
         slots,
         found: Found::default(),
     };
-    while let Some(part) = fields.next()? {
+    for field in Fields::of(block, 0) {
+        let part = field?;
         pass.go_past(part.tag, part.field.bytes());
     }
     Ok(pass.finish())
