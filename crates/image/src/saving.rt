@@ -14,7 +14,7 @@ pub fn save<B: CaseBook>(book: &B, bytes: &mut [u8]) -> Result<(), BookRefusal>
     ensures answer { result ≡ save_answer (B.room book.now) (length bytes.old) }
     ensures bytes { bytes.new ≡ (if is_ok result then image (B.room book.now) (B.cases book.now) else bytes.old) }
 {
-    if bytes.len() % BLOCK != 0 || bytes.len() / BLOCK != book.capacity() {
+    if bytes.len() != BLOCK * book.capacity() {
         return Err(BookRefusal::NoBook);
     }
     bytes.fill(0);

@@ -17,7 +17,7 @@ returns c =
       record {
         capacity = ap (λ n. fit_capacity (n / 512)) long ∙ p.1;
         within = omega arith;
-        fit = tt;
+        fit = λ k d h. absurd (omega arith);
         apart = tt;
         form = zeros ∙ ap (λ n. replicate n 0) k;
       },

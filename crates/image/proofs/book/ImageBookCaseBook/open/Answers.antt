@@ -1,4 +1,4 @@
-use Rattle.std.proofs.Common.{◌≡◌, ◌+◌, ◌/◌, ◌<◌, true, false, ltb, [], ◌∷◌, ◌++◌, length, is_some, sym, refl, ap, ◌∙◌, subst, arith, rules}
+use Rattle.std.proofs.Common.{◌≡◌, ◌+◌, ◌/◌, ◌<◌, true, false, ltb, [], ◌∷◌, ◌++◌, length, is_some, sym, ap, ◌∙◌, subst, arith, rules}
 use Rattle.std.proofs.lemmas.List.{length_push}
 use Rattle.std.proofs.lemmas.Bool.{cond-true, cond-false, lt-ltb, le-ltb}
 use Rattle.table.proofs.Bridges.{any_place}
@@ -8,30 +8,25 @@ use Rattle.books.specs.Books.{as_opened, has_name, place_of, stands}
 use Rattle.coding.specs.CaseFields.{case_block}
 use Rattle.image.specs.Image.{ImageOf, cases_in}
 use Rattle.image.specs.Books.{cases_of, room_of}
-use Rattle.image.proofs.Images.{length-cases_in, with_block}
-use Rattle.image.proofs.Keeping.{fit_state, length_whole, cases_again, opened_image}
+use Rattle.image.proofs.Images.{length-cases_in, cases_again}
+use Rattle.image.proofs.Keeping.{with_block, fit_state, opened_image}
 use Rattle.image.proofs.book.ImageBookCaseBook.open.Goals as goal
 
-pub returns-then-is_some : goal.returns-then-is_some
-returns-then-is_some c =
+pub returns-then-is_some-clause-answer : goal.returns-then-is_some-clause-answer
+returns-then-is_some-clause-answer c =
     let n = (view c.args.case).name in
     let cs = cases_of c.args.self.now in
     let hit : stands n cs ≡ true = any_place (has_name n) cs ∙ ap is_some (sym c.find.ensures) ∙ sym c.is_some.ensures ∙ c.if-is_some.true in
-    record { sound = c.requires; room = refl; answer = sym (cond-true _ _ _ hit); cases = refl }
+    sym (cond-true _ _ _ hit)
 
-pub returns-then-at-capacity : goal.returns-then-at-capacity
-returns-then-at-capacity c =
+pub returns-then-self-capacity-clause-answer : goal.returns-then-self-capacity-clause-answer
+returns-then-self-capacity-clause-answer c =
     let b = c.args.self.now in
     let n = (view c.args.case).name in
     let cs = cases_of b in
     let missed : stands n cs ≡ false = any_place (has_name n) cs ∙ ap is_some (sym c.find.ensures) ∙ sym c.is_some.ensures ∙ c.if-is_some.false in
     let full : ltb (length cs) (room_of b) ≡ false = le-ltb (length cs) (room_of b) (omega (arith, length-cases_in b.count b.bytes.now)) in
-    record { sound = c.requires; room = refl; answer = sym (cond-false _ _ _ missed ∙ cond-false _ _ _ full); cases = refl }
-
-pub write_at-requires : goal.write_at-requires
-write_at-requires c =
-    let b = c.args.self.now in
-    omega (arith, length_whole b.bytes.now (cases_of b) c.requires)
+    sym (cond-false _ _ _ missed ∙ cond-false _ _ _ full)
 
 pub returns : goal.returns
 returns c =
@@ -44,12 +39,11 @@ returns c =
     let n = length-cases_in b.count bytes in
     let room : length cs < room_of b = omega (arith, n) in
     let more = c.write_at.new.bytes in
-    let e : more ≡ with_block bytes (length cs) (case_block d) = c.write_at.ensures ∙ ap (λ k. with_block bytes k (case_block d)) (sym n) in
-    let fit = fit_state d.state tt (view c.args.case) (fit_case c.args.case) in
-    let i : ImageOf more (cs ++ d ∷ []) = subst (λ x. ImageOf x (cs ++ d ∷ [])) (sym e) (opened_image bytes cs c.requires d fit room lost) in
-    let m : length (cs ++ d ∷ []) ≡ b.count + 1 = length_push cs d ∙ ap (λ k. k + 1) n in
-    let again : cases_in (b.count + 1) more ≡ cs ++ d ∷ [] = ap (λ k. cases_in k more) (sym m) ∙ cases_again more (cs ++ d ∷ []) i in
     let long : length more ≡ length bytes = search rules in
+    let fit = fit_state d.state tt (view c.args.case) (fit_case c.args.case) in
+    let e : more ≡ with_block bytes (length cs) (case_block d) = c.write_at.ensures ∙ ap (λ k. with_block bytes k (case_block d)) (sym n) in
+    let i : ImageOf more (cs ++ d ∷ []) = opened_image bytes cs c.requires more long d fit room lost e in
+    let again : cases_in (b.count + 1) more ≡ cs ++ d ∷ [] = cases_again more (cs ++ d ∷ []) i (b.count + 1) (let m = length_push cs d in omega arith) in
     record {
       sound = subst (ImageOf more) (sym again) i;
       room = ap (λ k. k / 512) long;
