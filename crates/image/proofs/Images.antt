@@ -8,7 +8,7 @@ use Rattle.std.proofs.lemmas.Bool.{and_parts, and_from, eqb-true, eq-eqb, lt-ltb
 use Rattle.std.proofs.lemmas.Bool.Decides.{nat_tests}
 use Rattle.std.proofs.lemmas.Option.{slice_get-get_or}
 use Rattle.std.proofs.lemmas.List.{length-append, length-map, length-replicate, replicate-append-replicate, take_at, get_or_append_left, get_or-append_right, get_or-map, get_or-replicate}
-use Rattle.std.proofs.lemmas.List.Elements.{All-weaker, All-append, All-map, All-replicate, recursion_from_All}
+use Rattle.std.proofs.lemmas.List.Elements.{All-nil, All-weaker, All-append, All-map, All-replicate, recursion_from_All}
 use Rattle.std.proofs.lemmas.List.Folds.{flat_map-map, map_fixed}
 use Rattle.std.proofs.lemmas.Grind.{flat_map-append}
 use Rattle.std.proofs.lemmas.Simd.{map-map}
@@ -123,6 +123,23 @@ image_from_blocks bytes cs w f a e =
       form = from_blocks n cs bytes (whole (length bytes) w) e;
     }
 
+pub image_blocks-none : (n : ℕ) → first_chunks 512 n (replicate (512 * n) 0) ≡ image_blocks n []
+image_blocks-none n =
+    ap (first_chunks 512 n) (sym (joined-blank n))
+    ∙ ap (λ k. first_chunks 512 k (joined (replicate n blank))) (sym (length-replicate n blank))
+    ∙ chunks-joined 512 (replicate n blank) (All-replicate (λ b. length b ≡ 512) n blank length-blank)
+    ∙ ap (λ k. replicate k blank) (omega arith)
+
+-- zeros are the image of no cases
+pub image_of_none : (n : ℕ) → fit_length n ≡ true → ImageOf (replicate n 0) []
+image_of_none n w =
+    let l = length-replicate {A = ℕ} n 0 in
+    image_from_blocks (replicate n 0) [] (ap fit_length l ∙ w) (All-nil Fit) tt
+    (ap (λ k. first_chunks 512 (k / 512) (replicate n 0)) l
+    ∙ ap (λ k. first_chunks 512 (n / 512) (replicate k 0)) (omega (arith, whole n w))
+    ∙ image_blocks-none (n / 512)
+    ∙ ap (λ k. image_blocks (k / 512) []) (sym l))
+
 module _ (bytes : List ℕ) (cs : List CaseValue) (i : ImageOf bytes cs) where
   even : All (λ b. length b ≡ 512) (image_blocks (length bytes / 512) cs)
   even =
@@ -201,10 +218,3 @@ place_position test (x ∷ xs) = go (test x) (place_position test xs)
     go : (b : Bool) → place test xs ≡ position test xs → cond b (Some 0) (option_map suc (place test xs)) ≡ cond (ltb (cond (not b) (1 + position_or_len test xs) 0) (suc (length xs))) (Some (cond (not b) (1 + position_or_len test xs) 0)) None
     go true e = sym (cond-true _ _ _ (lt-ltb 0 (suc (length xs)) (omega arith)))
     go false e = ap (option_map suc) e ∙ suc_position (position_or_len test xs) (length xs)
-
-pub image_blocks-none : (n : ℕ) → first_chunks 512 n (replicate (512 * n) 0) ≡ image_blocks n []
-image_blocks-none n =
-    ap (first_chunks 512 n) (sym (joined-blank n))
-    ∙ ap (λ k. first_chunks 512 k (joined (replicate n blank))) (sym (length-replicate n blank))
-    ∙ chunks-joined 512 (replicate n blank) (All-replicate (λ b. length b ≡ 512) n blank length-blank)
-    ∙ ap (λ k. replicate k blank) (omega arith)

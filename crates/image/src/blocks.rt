@@ -14,14 +14,15 @@ use coding::case_block;
 use tags::listing::Tag;
 
 /// Whether the field of a tag is there and has this value.
-fn has_value(block: &[u8], tag: Tag, bytes: &[u8]) -> bool
+fn has_value(block: &[u8; BLOCK], tag: Tag, bytes: &[u8]) -> bool
     ensures { result ≡ is_value (value_of (number_of tag) (fields_of block.now)) bytes.now }
 {
     value(block, tag.number()) == Some(bytes)
 }
 
 /// Whether a block has this name. The reference is looked for only where the identifier is the same.
-fn is_named(block: &[u8], name: &CaseName) -> bool
+#[tactic(auto, unfolding(crate::specs::Image::named))]
+fn is_named(block: &[u8; BLOCK], name: &CaseName) -> bool
     ensures { result ≡ named (name_view name.now) block.now }
 {
     has_value(block, Tag::Identifier, &name.identifier.bytes)
@@ -40,6 +41,7 @@ pub(crate) fn write_at(bytes: &mut [u8], at: usize, case: &Case)
     requires { 512 * at + 512 ≤ length bytes.old }
     ensures { bytes.new ≡ take (512 * at) bytes.old ++ (case_block (view case.now) ++ drop (512 * at + 512) bytes.old) }
 {
+    // `as_chunks_mut` shows the block itself, but the library does not say what the bytes are afterwards.
     let start = BLOCK * at;
     bytes[start..start + BLOCK].copy_from_slice(&case_block(case));
 }

@@ -15,6 +15,7 @@ use cases::case::{Case, CaseName, State};
 use coding::read_case;
 
 /// A book whose cases are the first `count` blocks of lent bytes; the blocks are its capacity.
+// A book over lent memory keeps its count beside the memory: this form is a rule of the project.
 #[derive(Drop)]
 pub struct ImageBook<'a> {
     bytes: &'a mut [u8],

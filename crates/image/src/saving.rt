@@ -18,6 +18,7 @@ pub fn save<B: CaseBook>(book: &B, bytes: &mut [u8]) -> Result<(), BookRefusal>
         return Err(BookRefusal::NoBook);
     }
     bytes.fill(0);
+    // A book gives its cases by their places, and the place of a case is that of its block.
     for at in 0..book.count() {
         if let Some(case) = book.case_at(at) {
             write_at(bytes, at, &case);
