@@ -28,6 +28,18 @@ use Rattle.coding.proofs.CaseBlocks.{length-case_block, fields-case_block, case_
 use Rattle.image.specs.Image.{fit_length, image, ImageOf, held, cases_in, is_value, named}
 use Rattle.image.proofs.Chunks.{joined, length-chunks, take-chunks, chunks-joined, length-joined, joined-chunks}
 
+-- the place of the first element that passes is its position
+suc_position : (p n : ℕ) → option_map suc (cond (ltb p n) (Some p) None) ≡ cond (ltb (1 + p) (suc n)) (Some (1 + p)) None
+suc_position p n = grind (arith, nat_tests)
+
+pub place_position : {X : Type 0} (test : X → Bool) (xs : List X) → place test xs ≡ position test xs
+place_position test [] = refl
+place_position test (x ∷ xs) = go (test x) (place_position test xs)
+  where
+    go : (b : Bool) → place test xs ≡ position test xs → cond b (Some 0) (option_map suc (place test xs)) ≡ cond (ltb (cond (not b) (1 + position_or_len test xs) 0) (suc (length xs))) (Some (cond (not b) (1 + position_or_len test xs) 0)) None
+    go true e = sym (cond-true _ _ _ (lt-ltb 0 (suc (length xs)) (omega arith)))
+    go false e = ap (option_map suc) e ∙ suc_position (position_or_len test xs) (length xs)
+
 -- One block.
 
 -- a block of zeros
@@ -69,9 +81,10 @@ pub held_all_again : (cs : List CaseValue) → All Fit cs → map held (map case
 held_all_again cs a = map-map held case_block cs ∙ map_fixed (λ c. held (case_block c)) cs (All-weaker Fit (λ c. held (case_block c) ≡ c) held_again cs a)
 
 -- a name stands among the blocks where it stands among the cases
-pub place_in_blocks : (n : NameValue) (cs : List CaseValue) → All Fit cs → place (named n) (map case_block cs) ≡ place_of n cs
+pub place_in_blocks : (n : NameValue) (cs : List CaseValue) → All Fit cs → position (named n) (map case_block cs) ≡ place_of n cs
 place_in_blocks n cs a =
-    place_map case_block (named n) cs
+    sym (place_position (named n) (map case_block cs))
+    ∙ place_map case_block (named n) cs
     ∙ place_same (λ c. named n (case_block c)) (has_name n) cs (recursion_from_All (λ c. named n (case_block c) ≡ has_name n c) cs (All-weaker Fit (λ c. named n (case_block c) ≡ has_name n c) (λ c f. named_case_block c f n) cs a))
 
 -- the block at a place holds the case at that place
@@ -82,8 +95,8 @@ case_at_place cs a bs s i block h e =
     let same : block ≡ case_block c = e ∙ ap (λ xs. get_or xs i block) s ∙ get_or-map case_block cs i vacant block l in
     ap (λ b. case_in (fields_of b)) same ∙ case_block_again c (a i vacant l) ∙ sym (slice_get-get_or cs i vacant l)
 
-pub length-cases_in : (n : ℕ) (bytes : List ℕ) → length (cases_in n bytes) ≡ n
-length-cases_in n bytes = length-map (first_chunks 512 n bytes) held ∙ length-chunks 512 n bytes
+pub length_cases_in : (n : ℕ) (bytes : List ℕ) → length (cases_in n bytes) ≡ n
+length_cases_in n bytes = length-map (first_chunks 512 n bytes) held ∙ length-chunks 512 n bytes
 
 -- The blocks of an image.
 
@@ -206,15 +219,3 @@ pub one_list : (bytes : List ℕ) (cs ds : List CaseValue) → ImageOf bytes cs 
 one_list bytes cs ds i j =
     let e : length ds ≡ length cs = let a = no_more bytes cs ds i j in let b = no_more bytes ds cs j i in omega arith in
     sym (cases_again bytes ds j (length ds) refl) ∙ cases_again bytes cs i (length ds) e
-
--- the place of the first element that passes is its position
-suc_position : (p n : ℕ) → option_map suc (cond (ltb p n) (Some p) None) ≡ cond (ltb (1 + p) (suc n)) (Some (1 + p)) None
-suc_position p n = grind (arith, nat_tests)
-
-pub place_position : {X : Type 0} (test : X → Bool) (xs : List X) → place test xs ≡ position test xs
-place_position test [] = refl
-place_position test (x ∷ xs) = go (test x) (place_position test xs)
-  where
-    go : (b : Bool) → place test xs ≡ position test xs → cond b (Some 0) (option_map suc (place test xs)) ≡ cond (ltb (cond (not b) (1 + position_or_len test xs) 0) (suc (length xs))) (Some (cond (not b) (1 + position_or_len test xs) 0)) None
-    go true e = sym (cond-true _ _ _ (lt-ltb 0 (suc (length xs)) (omega arith)))
-    go false e = ap (option_map suc) e ∙ suc_position (position_or_len test xs) (length xs)

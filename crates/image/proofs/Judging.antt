@@ -1,12 +1,11 @@
 -- Blocks that are judged from the front: the cases so far, and the blocks that are left.
 use Rattle.std.proofs.Common.{◌≡◌, ℕ, zero, suc, ◌+◌, ◌-◌, ◌*◌, ◌/◌, ◌<◌, ◌≤◌, true, false, eqb, List, [], ◌∷◌, ◌++◌, map, length, get_or, take, drop, replicate, is_some, Some, None, sym, refl, ap, ◌∙◌, subst, ⊎_elim, arith}
-use Rattle.std.specs.List.{slice_get, All, AllByRecursion}
+use Rattle.std.specs.List.{position, slice_get, All, AllByRecursion}
 use Rattle.std.specs.Simd.{first_chunks}
 use Rattle.std.proofs.lemmas.List.{length-map, length-drop, take-append-drop, take_more, take-append-le, take-map, map_push, drop_at, drop-drop, drop-replicate}
 use Rattle.std.proofs.lemmas.List.Elements.{All-head, All-tail, All-push, All-take, All-drop, All-same}
 use Rattle.std.proofs.lemmas.Option.{slice_get-get_or}
 use Rattle.std.proofs.lemmas.Bool.{and_parts, eqb-true, cases_lt, true≢false}
-use Rattle.table.specs.Lists.{place}
 use Rattle.table.proofs.Bridges.{place_none}
 use Rattle.cases.specs.Cases.{NameValue, CaseValue, same_name}
 use Rattle.cases.specs.Vacant.{vacant}
@@ -16,7 +15,7 @@ use Rattle.books.proofs.Naming.{apart-push, names-push, names_differ}
 use Rattle.coding.specs.CaseFields.{case_block}
 use Rattle.image.specs.Image.{fit_length, all_zero, ImageOf, held, cases_in, named}
 use Rattle.image.proofs.Chunks.{joined, length-chunks, take-chunks, chunks_even}
-use Rattle.image.proofs.Images.{blank, blank-zeros, joined-blank, held_again, held_all_again, place_in_blocks, length-cases_in, image_blocks, whole, image_from_blocks, blocks_from_image, block_at}
+use Rattle.image.proofs.Images.{blank, blank-zeros, joined-blank, held_again, held_all_again, place_in_blocks, length_cases_in, image_blocks, whole, image_from_blocks, blocks_from_image, block_at}
 
 -- Zeros.
 
@@ -50,8 +49,8 @@ pub record Held (bs : List (List ℕ)) (at : ℕ) : Type 0 where
   pub form : take at bs ≡ map case_block (so_far bs at)
 
 -- a name stands among the blocks so far where it stands among their cases
-pub place_so_far : (bs : List (List ℕ)) (at : ℕ) → Held bs at → (n : NameValue) → place (named n) (take at bs) ≡ place_of n (so_far bs at)
-place_so_far bs at s n = ap (place (named n)) s.form ∙ place_in_blocks n (so_far bs at) s.fit
+pub place_so_far : (bs : List (List ℕ)) (at : ℕ) → Held bs at → (n : NameValue) → position (named n) (take at bs) ≡ place_of n (so_far bs at)
+place_so_far bs at s n = ap (position (named n)) s.form ∙ place_in_blocks n (so_far bs at) s.fit
 
 -- one case more
 pub held_more : (bs : List (List ℕ)) (at : ℕ) → Held bs at → at < length bs → (c : CaseValue) → Fit c → get_or bs at [] ≡ case_block c → is_some (place_of c.name (so_far bs at)) ≡ false → Held bs (at + 1)
@@ -83,7 +82,7 @@ module _ (bytes : List ℕ) (bs : List (List ℕ)) (cut : bs ≡ first_chunks 51
       let n = length bytes / 512 in
       let same : so_far bs at ≡ cases_in at bytes = ap (λ x. map held (take at x)) cut ∙ ap (map held) (take-chunks 512 at n bytes h) in
       let even = subst (All (λ b. length b ≡ 512)) (sym cut) (chunks_even 512 n bytes (omega (arith, whole (length bytes) w))) in
-      let left : length (drop at bs) ≡ n - length (so_far bs at) = omega (arith, length-drop at bs, ap length cut, length-chunks 512 n bytes, ap length same, length-cases_in at bytes) in
+      let left : length (drop at bs) ≡ n - length (so_far bs at) = omega (arith, length-drop at bs, ap length cut, length-chunks 512 n bytes, ap length same, length_cases_in at bytes) in
       subst (ImageOf bytes) same
       (image_from_blocks bytes (so_far bs at) w s.fit s.apart
       (sym cut ∙ sym (take-append-drop at bs) ∙ ap (λ r. r ++ drop at bs) s.form

@@ -1,9 +1,9 @@
 -- Images: one case a block, then blocks of zeros.
-use Rattle.std.specs.Prelude.{◌≡◌, ℕ, ◌-◌, ◌*◌, ◌/◌, ◌%◌, ◌≤◌, Bool, true, false, ◌&&◌, List, ◌++◌, map, length, replicate, Some, None, Option, All, ◌==◌, nat_eq}
-use Rattle.std.specs.List.{flat_map}
+use Rattle.std.specs.Prelude.{◌≡◌, ℕ, ◌-◌, ◌*◌, ◌/◌, ◌%◌, ◌≤◌, Bool, true, false, ◌&&◌, List, ◌++◌, map, length, replicate, Some, None, Option, All, ◌==◌}
+use Rattle.std.specs.List.{flat_map, list_all}
 use Rattle.std.specs.Option.{unwrap_or}
 use Rattle.std.specs.Simd.{first_chunks}
-use Rattle.octets.specs.Bytes.{same_bytes, every}
+use Rattle.octets.specs.Bytes.{same_bytes}
 use Rattle.block.specs.Fields.{fields_of, value_of}
 use Rattle.cases.specs.Cases.{NameValue, CaseValue}
 use Rattle.cases.specs.Vacant.{vacant}
@@ -22,7 +22,7 @@ fit_length n = n % 512 == 0 && fit_capacity (n / 512)
 
 -- all bytes are zero
 abbrev pub all_zero : List ℕ → Bool
-all_zero bs = every (λ b. nat_eq b 0) bs
+all_zero bs = list_all (λ b. b == 0) bs
 
 -- the bytes are the image of these cases: 1 to 4,096 blocks, no more cases than blocks, each case fit, no name twice
 pub record ImageOf (bytes : List ℕ) (cs : List CaseValue) : Type 0 where

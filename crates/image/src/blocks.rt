@@ -1,7 +1,7 @@
 //! The blocks of an image: finding a name, and writing a case.
 ghost use Rattle.std.specs.Prelude.{◌≡◌, ◌+◌, ◌*◌, ◌≤◌, ◌++◌, length, take, drop};
 ghost use Rattle.block.specs.Fields.{fields_of, value_of};
-ghost use Rattle.table.specs.Lists.{place};
+ghost use Rattle.std.specs.List.{position};
 ghost use Rattle.cases.specs.Views.{name_view, view};
 ghost use Rattle.tags.specs.Tags.{number_of};
 ghost use Rattle.coding.specs.CaseFields.{case_block};
@@ -31,7 +31,7 @@ fn is_named(block: &[u8; BLOCK], name: &CaseName) -> bool
 
 /// The place of the first block of this name.
 pub(crate) fn find_in(blocks: &[[u8; BLOCK]], name: &CaseName) -> Option<usize>
-    ensures { result ≡ place (named (name_view name.now)) blocks.now }
+    ensures { result ≡ position (named (name_view name.now)) blocks.now }
 {
     blocks.iter().position(|block| is_named(block, name))
 }

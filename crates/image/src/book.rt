@@ -35,6 +35,7 @@ impl<'a> ImageBook<'a> {
     }
 
     /// The book whose image the bytes are. They are the image of no other cases.
+    #[tactic(auto, using(crate::proofs::Images::one_list))]
     pub fn mount(bytes: &'a mut [u8]) -> Result<ImageBook<'a>, BookRefusal>
         ensures { MatchResult result (λ b. Sound b × (b.bytes.now ≡ bytes.old) × ((cs : List CaseValue) → ImageOf bytes.old cs → cs ≡ cases_of b)) (λ e. (e ≡ NoBook) × ((cs : List CaseValue) → ImageOf bytes.old cs → ⊥)) }
     {
@@ -52,6 +53,7 @@ impl<'a> ImageBook<'a> {
     }
 
     /// The blocks of the cases.
+    #[tactic(auto, using(crate::proofs::Images::length_cases_in, crate::proofs::Images::first_blocks, std::proofs::lemmas::Grind::common_steps))]
     fn blocks(&self) -> &[[u8; BLOCK]]
         requires { Sound self.now }
         ensures { result.now ≡ map case_block (cases_of self.now) }
@@ -69,6 +71,7 @@ impl<'a> CaseBook for ImageBook<'a> {
 
     ghost keeps = { image_keeps };
 
+    #[tactic(auto, using(crate::proofs::Images::length_cases_in))]
     fn count(&self) -> usize {
         self.count
     }
@@ -77,10 +80,12 @@ impl<'a> CaseBook for ImageBook<'a> {
         self.bytes.len() / BLOCK
     }
 
+    #[tactic(auto, using(crate::proofs::Images::case_at_place))]
     fn case_at(&self, at: usize) -> Option<Case> {
         read_case(self.blocks().get(at)?)
     }
 
+    #[tactic(auto, using(crate::proofs::Images::place_in_blocks))]
     fn find(&self, name: &CaseName) -> Option<usize> {
         find_in(self.blocks(), name)
     }

@@ -1,4 +1,4 @@
-use Rattle.std.proofs.Common.{◌≡◌, ◌/◌, [], length, replicate, sym, refl, ap, subst}
+use Rattle.std.proofs.Common.{◌/◌, [], length, sym, refl, ap, subst}
 use Rattle.image.specs.Image.{ImageOf}
 use Rattle.image.proofs.Images.{image_of_none}
 use Rattle.image.proofs.book.ImageBook.new.Goals as goal

@@ -10,7 +10,7 @@ use Rattle.cases.proofs.Fits.{fit_closing}
 use Rattle.books.specs.Books.{changed}
 use Rattle.image.specs.Image.{ImageOf, cases_in}
 use Rattle.image.specs.Books.{cases_of}
-use Rattle.image.proofs.Images.{length-cases_in, cases_again, image_length, whole}
+use Rattle.image.proofs.Images.{length_cases_in, cases_again, image_length, whole}
 use Rattle.image.proofs.Keeping.{changed_image}
 use Rattle.image.proofs.book.ImageBookCaseBook.change.Goals as goal
 
@@ -37,7 +37,7 @@ returns c =
     let more = c.write_at.new.bytes in
     let long : length more ≡ length bytes = search rules in
     let i : ImageOf more (changed at s cs) = changed_image bytes cs c.requires more long s (fit_closing c.args.state) at old some c.write_at.ensures in
-    let again : cases_in b.count more ≡ changed at s cs = cases_again more (changed at s cs) i b.count (sym (length-alter (with_state s) cs at ∙ length-cases_in b.count bytes)) in
+    let again : cases_in b.count more ≡ changed at s cs = cases_again more (changed at s cs) i b.count (sym (length-alter (with_state s) cs at ∙ length_cases_in b.count bytes)) in
     record {
       sound = subst (ImageOf more) (sym again) i;
       room = ap (λ k. k / 512) long;

@@ -8,7 +8,7 @@ use Rattle.books.specs.Books.{as_opened, has_name, place_of, stands}
 use Rattle.coding.specs.CaseFields.{case_block}
 use Rattle.image.specs.Image.{ImageOf, cases_in}
 use Rattle.image.specs.Books.{cases_of, room_of}
-use Rattle.image.proofs.Images.{length-cases_in, cases_again}
+use Rattle.image.proofs.Images.{length_cases_in, cases_again}
 use Rattle.image.proofs.Keeping.{with_block, fit_state, opened_image}
 use Rattle.image.proofs.book.ImageBookCaseBook.open.Goals as goal
 
@@ -25,7 +25,7 @@ returns-then-self-capacity-clause-answer c =
     let n = (view c.args.case).name in
     let cs = cases_of b in
     let missed : stands n cs ≡ false = any_place (has_name n) cs ∙ ap is_some (sym c.find.ensures) ∙ sym c.is_some.ensures ∙ c.if-is_some.false in
-    let full : ltb (length cs) (room_of b) ≡ false = le-ltb (length cs) (room_of b) (omega (arith, length-cases_in b.count b.bytes.now)) in
+    let full : ltb (length cs) (room_of b) ≡ false = le-ltb (length cs) (room_of b) (omega (arith, length_cases_in b.count b.bytes.now)) in
     sym (cond-false _ _ _ missed ∙ cond-false _ _ _ full)
 
 pub returns : goal.returns
@@ -36,7 +36,7 @@ returns c =
     let cs = cases_of b in
     let lost : is_some (place_of d.name cs) ≡ false = ap is_some (sym c.find.ensures) ∙ sym c.is_some.ensures ∙ c.if-is_some.false in
     let missed : stands d.name cs ≡ false = any_place (has_name d.name) cs ∙ lost in
-    let n = length-cases_in b.count bytes in
+    let n = length_cases_in b.count bytes in
     let room : length cs < room_of b = omega (arith, n) in
     let more = c.write_at.new.bytes in
     let long : length more ≡ length bytes = search rules in
