@@ -171,6 +171,9 @@ module _ (bytes : List ℕ) (cs : List CaseValue) (i : ImageOf bytes cs) where
       let l : length bytes ≡ n * 512 = ap length bytes_joined ∙ length-joined 512 (image_blocks n cs) even ∙ ap (λ k. k * 512) many in
       and_from (eqb (length bytes % 512) 0) (fit_capacity n) (eq-eqb (length bytes % 512) 0 (omega arith)) i.capacity
 
+  pub whole_image : length bytes ≡ length bytes / 512 * 512
+  whole_image = whole (length bytes) image_length
+
   pub blocks_from_image : first_chunks 512 (length bytes / 512) bytes ≡ image_blocks (length bytes / 512) cs
   blocks_from_image =
       let n = length bytes / 512 in

@@ -90,6 +90,7 @@ impl<'a> CaseBook for ImageBook<'a> {
         find_in(self.blocks(), name)
     }
 
+    #[tactic(auto, using(table::proofs::Bridges::any_place, crate::proofs::Images::length_cases_in))]
     fn open(&mut self, case: Case) -> Result<(), BookRefusal> {
         if self.find(&case.name).is_some() {
             return Err(BookRefusal::Stands);
@@ -106,6 +107,7 @@ impl<'a> CaseBook for ImageBook<'a> {
         Ok(())
     }
 
+    #[tactic(auto, using(table::proofs::Bridges::alter_past, crate::proofs::Images::length_cases_in, crate::proofs::Images::whole_image))]
     fn change(&mut self, at: usize, state: State) -> Result<(), BookRefusal> {
         let case = self.case_at(at).ok_or(BookRefusal::NoPlace)?;
         let changed = Case { state, ..case };

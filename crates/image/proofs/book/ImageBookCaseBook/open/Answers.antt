@@ -1,10 +1,9 @@
-use Rattle.std.proofs.Common.{◌≡◌, ◌+◌, ◌/◌, ◌<◌, true, false, ltb, [], ◌∷◌, ◌++◌, length, is_some, sym, ap, ◌∙◌, subst, arith, rules}
+use Rattle.std.proofs.Common.{◌≡◌, ◌+◌, ◌/◌, ◌<◌, false, [], ◌∷◌, ◌++◌, length, is_some, sym, ap, ◌∙◌, subst, arith, rules}
 use Rattle.std.proofs.lemmas.List.{length_push}
-use Rattle.std.proofs.lemmas.Bool.{cond-true, cond-false, lt-ltb, le-ltb}
 use Rattle.table.proofs.Bridges.{any_place}
 use Rattle.cases.specs.Views.{view}
 use Rattle.cases.proofs.Fits.{fit_case}
-use Rattle.books.specs.Books.{as_opened, has_name, place_of, stands}
+use Rattle.books.specs.Books.{as_opened, place_of}
 use Rattle.coding.specs.CaseFields.{case_block}
 use Rattle.image.specs.Image.{ImageOf, cases_in}
 use Rattle.image.specs.Books.{cases_of, room_of}
@@ -12,41 +11,23 @@ use Rattle.image.proofs.Images.{length_cases_in, cases_again}
 use Rattle.image.proofs.Keeping.{with_block, fit_state, opened_image}
 use Rattle.image.proofs.book.ImageBookCaseBook.open.Goals as goal
 
-pub returns-then-is_some-clause-answer : goal.returns-then-is_some-clause-answer
-returns-then-is_some-clause-answer c =
-    let n = (view c.args.case).name in
-    let cs = cases_of c.args.self.now in
-    let hit : stands n cs ≡ true = any_place (has_name n) cs ∙ ap is_some (sym c.find.ensures) ∙ sym c.is_some.ensures ∙ c.if-is_some.true in
-    sym (cond-true _ _ _ hit)
-
-pub returns-then-self-capacity-clause-answer : goal.returns-then-self-capacity-clause-answer
-returns-then-self-capacity-clause-answer c =
-    let b = c.args.self.now in
-    let n = (view c.args.case).name in
-    let cs = cases_of b in
-    let missed : stands n cs ≡ false = any_place (has_name n) cs ∙ ap is_some (sym c.find.ensures) ∙ sym c.is_some.ensures ∙ c.if-is_some.false in
-    let full : ltb (length cs) (room_of b) ≡ false = le-ltb (length cs) (room_of b) (omega (arith, length_cases_in b.count b.bytes.now)) in
-    sym (cond-false _ _ _ missed ∙ cond-false _ _ _ full)
-
 pub returns : goal.returns
 returns c =
     let b = c.args.self.now in
     let bytes = b.bytes.now in
     let d = as_opened (view c.args.case) in
     let cs = cases_of b in
-    let lost : is_some (place_of d.name cs) ≡ false = ap is_some (sym c.find.ensures) ∙ sym c.is_some.ensures ∙ c.if-is_some.false in
-    let missed : stands d.name cs ≡ false = any_place (has_name d.name) cs ∙ lost in
     let n = length_cases_in b.count bytes in
     let room : length cs < room_of b = omega (arith, n) in
+    let lost : is_some (place_of d.name cs) ≡ false = ap is_some (sym c.find.ensures) ∙ sym c.is_some.ensures ∙ c.if-is_some.false in
     let more = c.write_at.new.bytes in
     let long : length more ≡ length bytes = search rules in
-    let fit = fit_state d.state tt (view c.args.case) (fit_case c.args.case) in
     let e : more ≡ with_block bytes (length cs) (case_block d) = c.write_at.ensures ∙ ap (λ k. with_block bytes k (case_block d)) (sym n) in
-    let i : ImageOf more (cs ++ d ∷ []) = opened_image bytes cs c.requires more long d fit room lost e in
-    let again : cases_in (b.count + 1) more ≡ cs ++ d ∷ [] = cases_again more (cs ++ d ∷ []) i (b.count + 1) (let m = length_push cs d in omega arith) in
+    let i = opened_image bytes cs c.requires more long d (fit_state d.state tt (view c.args.case) (fit_case c.args.case)) room lost e in
+    let again : cases_in (b.count + 1) more ≡ cs ++ d ∷ [] = cases_again more (cs ++ d ∷ []) i (b.count + 1) (omega (arith, length_push cs d)) in
     record {
       sound = subst (ImageOf more) (sym again) i;
       room = ap (λ k. k / 512) long;
-      answer = sym (cond-false _ _ _ missed ∙ cond-true _ _ _ (lt-ltb (length cs) (room_of b) room));
+      answer = grind (arith, any_place, n);
       cases = again;
     }
