@@ -43,18 +43,18 @@ blank_blocks (b ∷ bs) a e =
 abbrev pub so_far : List (List ℕ) → ℕ → List CaseValue
 so_far bs at = map held (take at bs)
 
-pub record Held (bs : List (List ℕ)) (at : ℕ) : Type 0 where
+pub record Judged (bs : List (List ℕ)) (at : ℕ) : Type 0 where
   pub fit : All Fit (so_far bs at)
   pub apart : Apart (names (so_far bs at))
   pub form : take at bs ≡ map case_block (so_far bs at)
 
 -- a name stands among the blocks so far where it stands among their cases
-pub place_so_far : (bs : List (List ℕ)) (at : ℕ) → Held bs at → (n : NameValue) → position (named n) (take at bs) ≡ place_of n (so_far bs at)
+pub place_so_far : (bs : List (List ℕ)) (at : ℕ) → Judged bs at → (n : NameValue) → position (named n) (take at bs) ≡ place_of n (so_far bs at)
 place_so_far bs at s n = ap (position (named n)) s.form ∙ place_in_blocks n (so_far bs at) s.fit
 
 -- one case more
-pub held_more : (bs : List (List ℕ)) (at : ℕ) → Held bs at → at < length bs → (c : CaseValue) → Fit c → get_or bs at [] ≡ case_block c → is_some (place_of c.name (so_far bs at)) ≡ false → Held bs (at + 1)
-held_more bs at s h c f e q =
+pub judged_more : (bs : List (List ℕ)) (at : ℕ) → Judged bs at → at < length bs → (c : CaseValue) → Fit c → get_or bs at [] ≡ case_block c → is_some (place_of c.name (so_far bs at)) ≡ false → Judged bs (at + 1)
+judged_more bs at s h c f e q =
     let cs = so_far bs at in
     let t : take (at + 1) bs ≡ take at bs ++ case_block c ∷ [] = take_more bs at [] h ∙ ap (λ b. take at bs ++ b ∷ []) e in
     let g : so_far bs (at + 1) ≡ cs ++ c ∷ [] = ap (map held) t ∙ map_push held (take at bs) (case_block c) ∙ ap (λ x. cs ++ x ∷ []) (held_again c f) in
@@ -75,10 +75,10 @@ apart_before (c ∷ ds) (suc k) d a e = (differs ds k a.0 e, apart_before ds k d
     differs (x ∷ xs) zero b q = let same : x ≡ d = cc in ap (λ (y : CaseValue). same_name c.name y.name) (sym same) ∙ b.0
     differs (x ∷ xs) (suc j) b q = differs xs j b.1 q
 
-module _ (bytes : List ℕ) (bs : List (List ℕ)) (cut : bs ≡ first_chunks 512 (length bytes / 512) bytes) (at : ℕ) (s : Held bs at) where
+module _ (bytes : List ℕ) (bs : List (List ℕ)) (cut : bs ≡ first_chunks 512 (length bytes / 512) bytes) (at : ℕ) (s : Judged bs at) where
   -- nothing but zeros is left
-  pub held_all : fit_length (length bytes) ≡ true → at ≤ length bytes / 512 → all_zero (joined (drop at bs)) ≡ true → ImageOf bytes (cases_in at bytes)
-  held_all w h z =
+  pub judged_all : fit_length (length bytes) ≡ true → at ≤ length bytes / 512 → all_zero (joined (drop at bs)) ≡ true → ImageOf bytes (cases_in at bytes)
+  judged_all w h z =
       let n = length bytes / 512 in
       let same : so_far bs at ≡ cases_in at bytes = ap (λ x. map held (take at x)) cut ∙ ap (map held) (take-chunks 512 at n bytes h) in
       let even = subst (All (λ b. length b ≡ 512)) (sym cut) (chunks_even 512 n bytes (omega (arith, whole (length bytes) w))) in

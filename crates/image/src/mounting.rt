@@ -23,6 +23,7 @@ fn is_blank(bytes: &[u8]) -> bool
 }
 
 /// How many cases bytes are the image of, if they are an image.
+#[tactic(auto, using(crate::proofs::Images::image_length))]
 pub(crate) fn count_cases(bytes: &[u8]) -> Option<usize>
     ensures { MatchOption result ((cs : List CaseValue) → ImageOf bytes.now cs → ⊥) (λ n. ImageOf bytes.now (cases_in n bytes.now)) }
 {
