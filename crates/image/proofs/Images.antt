@@ -28,10 +28,10 @@ use Rattle.coding.proofs.CaseBlocks.{length-case_block, fields-case_block, case_
 use Rattle.image.specs.Image.{fit_length, image, ImageOf, held, cases_in, is_value, named}
 use Rattle.image.proofs.Chunks.{joined, length-chunks, take-chunks, chunks-joined, length-joined, joined-chunks}
 
--- the place of the first element that passes is its position
 suc_position : (p n : ℕ) → option_map suc (cond (ltb p n) (Some p) None) ≡ cond (ltb (1 + p) (suc n)) (Some (1 + p)) None
 suc_position p n = grind (arith, nat_tests)
 
+-- the place of the first element that passes is its position
 pub place_position : {X : Type 0} (test : X → Bool) (xs : List X) → place test xs ≡ position test xs
 place_position test [] = refl
 place_position test (x ∷ xs) = go (test x) (place_position test xs)
@@ -213,7 +213,7 @@ no_more bytes cs ds i j =
     let w = j.within in
     let same : blank ≡ case_block d = sym (blank_at bytes cs i (length cs) (omega arith) (omega arith)) ∙ block_at bytes ds j (length cs) blank h in
     let q : None ≡ Some d = sym blank_case ∙ ap (λ b. case_in (fields_of b)) same ∙ case_block_again d (j.fit (length cs) vacant h) in
-    absurd (let z : ◌≡◌ {A = ℕ} 0 1 = cc in omega arith))
+    absurd (cc))
     (λ (h : length ds ≤ length cs). h)
     (cases_lt (length cs) (length ds))
 

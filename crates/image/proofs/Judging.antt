@@ -66,12 +66,12 @@ judged_more bs at s h c f e q =
 
 -- a case's name differs from the names before it
 apart_before : (ds : List CaseValue) (k : ℕ) (d : CaseValue) → Apart (names ds) → slice_get ds k ≡ Some d → AllByRecursion (λ c. has_name d.name c ≡ false) (take k ds)
-apart_before [] k d a e = let z : ◌≡◌ {A = ℕ} 0 1 = cc in absurd (omega arith)
+apart_before [] k d a e = absurd (cc)
 apart_before (c ∷ ds) zero d a e = tt
 apart_before (c ∷ ds) (suc k) d a e = (differs ds k a.0 e, apart_before ds k d a.1 e)
   where
     differs : (xs : List CaseValue) (j : ℕ) → AllByRecursion (λ m. same_name c.name m ≡ false) (names xs) → slice_get xs j ≡ Some d → same_name c.name d.name ≡ false
-    differs [] j b q = let z : ◌≡◌ {A = ℕ} 0 1 = cc in absurd (omega arith)
+    differs [] j b q = absurd (cc)
     differs (x ∷ xs) zero b q = let same : x ≡ d = cc in ap (λ (y : CaseValue). same_name c.name y.name) (sym same) ∙ b.0
     differs (x ∷ xs) (suc j) b q = differs xs j b.1 q
 

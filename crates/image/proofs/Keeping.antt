@@ -1,15 +1,13 @@
 -- Bytes that are the image of cases stay the image of the cases that opening and changing leave.
-use Rattle.std.proofs.Common.{◌≡◌, ℕ, zero, suc, ◌+◌, ◌-◌, ◌*◌, ◌/◌, ◌<◌, true, false, List, [], ◌∷◌, ◌++◌, map, length, take, drop, set, replicate, is_some, IfSome, Some, sym, refl, ap, ◌∙◌, subst, arith}
+use Rattle.std.proofs.Common.{◌≡◌, ℕ, zero, suc, ◌+◌, ◌-◌, ◌*◌, ◌/◌, ◌<◌, false, List, [], ◌∷◌, ◌++◌, map, length, take, drop, set, replicate, is_some, Some, sym, refl, ap, ◌∙◌, subst, arith}
 use Rattle.std.specs.List.{slice_get, All}
 use Rattle.std.specs.Simd.{first_chunks}
 use Rattle.std.proofs.lemmas.List.{append_assoc, length-map, length-set, length_push, map-set, map_push, set_at, set-append_left}
-use Rattle.std.proofs.lemmas.List.Elements.{All-get_or, All-set, All-push, All-same}
-use Rattle.std.proofs.lemmas.Option.{slice_get_within, get_or_from_slice_get}
+use Rattle.std.proofs.lemmas.List.Elements.{All-set, All-push, All-same}
+use Rattle.std.proofs.lemmas.Option.{slice_get_within}
 use Rattle.table.specs.Lists.{alter_at}
 use Rattle.table.proofs.Bridges.{map-alter}
-use Rattle.values.specs.Identifiers.{identifier}
 use Rattle.cases.specs.Cases.{StateValue, CaseValue, with_state}
-use Rattle.cases.specs.Numbers.{closing_of}
 use Rattle.cases.specs.Fitness.{Fit}
 use Rattle.books.specs.Books.{place_of, changed, names, Apart}
 use Rattle.books.proofs.Naming.{apart-push, names-push, names_differ}
@@ -17,21 +15,7 @@ use Rattle.coding.specs.CaseFields.{case_block}
 use Rattle.coding.proofs.CaseBlocks.{length-case_block}
 use Rattle.image.specs.Image.{fit_length, ImageOf}
 use Rattle.image.proofs.Chunks.{chunks-written}
-use Rattle.image.proofs.Images.{blank, image_blocks, whole, image_from_blocks, image_length, blocks_from_image}
-
--- a fit case in a fit state
-pub fit_state : (s : StateValue) → IfSome (closing_of s) (λ id. identifier id ≡ true) → (c : CaseValue) → Fit c → Fit (with_state s c)
-fit_state s g c f =
-    record {
-      identifier = f.identifier;
-      uetr = f.uetr;
-      subject = f.subject;
-      end_to_end = f.end_to_end;
-      amount = f.amount;
-      opener = f.opener;
-      assignee = f.assignee;
-      closing = g;
-    }
+use Rattle.image.proofs.Images.{blank, image_blocks, whole_image, image_from_blocks, image_length, blocks_from_image}
 
 -- altering what stands at a place sets it there
 alter_set : {X : Type 0} (f : X → X) (xs : List X) (i : ℕ) (x : X) → slice_get xs i ≡ Some x → alter_at i f xs ≡ set xs i (f x)
@@ -70,11 +54,10 @@ module _ (bytes : List ℕ) (cs : List CaseValue) (s : ImageOf bytes cs) (more :
   remade : (i : ℕ) (d : CaseValue) (ds : List CaseValue) → Fit d → i < length bytes / 512 → more ≡ with_block bytes i (case_block d) → All Fit ds → Apart (names ds) → set (image_blocks (length bytes / 512) cs) i (case_block d) ≡ image_blocks (length bytes / 512) ds → ImageOf more ds
   remade i d ds f h e a p q =
       let n = length bytes / 512 in
-      let w = image_length bytes cs s in
-      image_from_blocks more ds (ap fit_length long ∙ w) a p
+      image_from_blocks more ds (ap fit_length long ∙ image_length bytes cs s) a p
       (ap (λ k. first_chunks 512 (k / 512) more) long
       ∙ ap (first_chunks 512 n) e
-      ∙ blocks-written n i bytes cs d (whole (length bytes) w) (blocks_from_image bytes cs s) f h
+      ∙ blocks-written n i bytes cs d (whole_image bytes cs s) (blocks_from_image bytes cs s) f h
       ∙ q
       ∙ ap (λ k. image_blocks (k / 512) ds) (sym long))
 
@@ -84,11 +67,10 @@ module _ (bytes : List ℕ) (cs : List CaseValue) (s : ImageOf bytes cs) (more :
       (subst Apart (sym (names-push cs d)) (apart-push (names cs) d.name s.apart (names_differ d.name cs q)))
       (blocks-opened (length bytes / 512) cs d h)
 
-  pub changed_image : (t : StateValue) → IfSome (closing_of t) (λ id. identifier id ≡ true) → (i : ℕ) (c : CaseValue) → slice_get cs i ≡ Some c → more ≡ with_block bytes i (case_block (with_state t c)) → ImageOf more (changed i t cs)
-  changed_image t g i c q e =
+  pub changed_image : (t : StateValue) (i : ℕ) (c : CaseValue) → Fit (with_state t c) → slice_get cs i ≡ Some c → more ≡ with_block bytes i (case_block (with_state t c)) → ImageOf more (changed i t cs)
+  changed_image t i c f q e =
       let h = slice_get_within cs i c q in
       let w = s.within in
-      let f : Fit (with_state t c) = fit_state t g c (subst Fit (get_or_from_slice_get cs i c c q) (All-get_or Fit cs i c h s.fit)) in
       let same = alter_set (with_state t) cs i c q in
       remade i (with_state t c) (changed i t cs) f (omega arith) e
       (All-same Fit (changed i t cs) (set cs i (with_state t c)) same (All-set Fit cs i (with_state t c) f s.fit))

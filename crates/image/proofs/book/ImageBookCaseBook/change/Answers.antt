@@ -5,7 +5,7 @@ use Rattle.std.proofs.lemmas.Option.{slice_get_within}
 use Rattle.table.proofs.Bridges.{length-alter}
 use Rattle.cases.specs.Cases.{with_state}
 use Rattle.cases.specs.Views.{view, state_view}
-use Rattle.cases.proofs.Fits.{fit_closing}
+use Rattle.cases.proofs.Fits.{fit_case}
 use Rattle.books.specs.Books.{changed}
 use Rattle.image.specs.Image.{ImageOf, cases_in}
 use Rattle.image.specs.Books.{cases_of}
@@ -24,7 +24,7 @@ returns c =
     let within = slice_get_within cs at old some in
     let more = c.write_at.new.bytes in
     let long : length more ≡ length b.bytes.now = search rules in
-    let i = changed_image b.bytes.now cs c.requires more long s (fit_closing c.args.state) at old some c.write_at.ensures in
+    let i = changed_image b.bytes.now cs c.requires more long s at old (fit_case (record c.in_ok-case.case { state = c.args.state })) some c.write_at.ensures in
     let again : cases_in b.count more ≡ changed at s cs = cases_again more (changed at s cs) i b.count (sym (length-alter (with_state s) cs at ∙ length_cases_in b.count b.bytes.now)) in
     record {
       sound = subst (ImageOf more) (sym again) i;

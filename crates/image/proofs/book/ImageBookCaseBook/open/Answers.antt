@@ -1,6 +1,7 @@
 use Rattle.std.proofs.Common.{◌≡◌, ◌+◌, ◌/◌, ◌<◌, false, [], ◌∷◌, ◌++◌, length, is_some, sym, ap, ◌∙◌, subst, arith, rules}
 use Rattle.std.proofs.lemmas.List.{length_push}
 use Rattle.table.proofs.Bridges.{any_place}
+use Rattle.cases.specs.declared.case.State.TheVariants.{Open}
 use Rattle.cases.specs.Views.{view}
 use Rattle.cases.proofs.Fits.{fit_case}
 use Rattle.books.specs.Books.{as_opened, place_of}
@@ -8,7 +9,7 @@ use Rattle.coding.specs.CaseFields.{case_block}
 use Rattle.image.specs.Image.{ImageOf, cases_in}
 use Rattle.image.specs.Books.{cases_of, room_of}
 use Rattle.image.proofs.Images.{length_cases_in, cases_again}
-use Rattle.image.proofs.Keeping.{with_block, fit_state, opened_image}
+use Rattle.image.proofs.Keeping.{with_block, opened_image}
 use Rattle.image.proofs.book.ImageBookCaseBook.open.Goals as goal
 
 pub returns : goal.returns
@@ -23,7 +24,7 @@ returns c =
     let more = c.write_at.new.bytes in
     let long : length more ≡ length bytes = search rules in
     let e : more ≡ with_block bytes (length cs) (case_block d) = c.write_at.ensures ∙ ap (λ k. with_block bytes k (case_block d)) (sym n) in
-    let i = opened_image bytes cs c.requires more long d (fit_state d.state tt (view c.args.case) (fit_case c.args.case)) room lost e in
+    let i = opened_image bytes cs c.requires more long d (fit_case (record c.args.case { state = Open })) room lost e in
     let again : cases_in (b.count + 1) more ≡ cs ++ d ∷ [] = cases_again more (cs ++ d ∷ []) i (b.count + 1) (omega (arith, length_push cs d)) in
     record {
       sound = subst (ImageOf more) (sym again) i;
