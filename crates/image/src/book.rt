@@ -15,10 +15,10 @@ use cases::case::{Case, CaseName, State};
 use coding::read_case;
 
 /// A book whose cases are the first `count` blocks of lent bytes; the blocks are its capacity.
-// A book over lent memory keeps its count beside the memory: this form is a rule of the project.
 #[derive(Drop)]
 pub struct ImageBook<'a> {
     bytes: &'a mut [u8],
+    // A count beside lent memory: a rule of the project sets this form for every book.
     count: usize,
 }
 
