@@ -1,150 +1,224 @@
--- Images: what their blocks hold, and what writing one block makes of them.
-use Rattle.std.proofs.Common.{◌≡◌, ℕ, zero, suc, ◌+◌, ◌*◌, ◌/◌, ◌≤◌, ◌&&◌, List, [], ◌∷◌, ◌++◌, map, length, take, drop, Some, None, Option, unwrap_or, sym, refl, ap, ◌∙◌, subst, arith}
-use Rattle.std.specs.List.{slice_get, flat_map, AllByRecursion}
+-- The blocks of an image: those of its cases, then blocks of zeros.
+use Rattle.std.proofs.Common.{◌≡◌, ℕ, zero, suc, ◌+◌, ◌-◌, ◌*◌, ◌/◌, ◌%◌, ◌<◌, ◌≤◌, Bool, true, false, not, cond, ◌&&◌, eqb, ltb, List, [], ◌∷◌, ◌++◌, map, length, get_or, take, replicate, Some, None, unwrap_or, sym, refl, ap, ◌∙◌, ⊎_elim, arith}
+use Rattle.std.specs.List.{slice_get, flat_map, All, position, position_or_len}
 use Rattle.std.specs.Option.{option_map}
-use Rattle.std.proofs.ByRecursion.{All-weaker, All-take}
-use Rattle.std.proofs.lemmas.List.{append_assoc, length-append, take_at, drop_at, take-append-drop, drop-drop, length-take-le, flat_map_more}
+use Rattle.std.specs.Simd.{first_chunks}
+use Rattle.std.proofs.Math.Path.{ap₂}
+use Rattle.std.proofs.lemmas.Bool.{and_parts, and_from, eqb-true, eq-eqb, lt-ltb, cond-true, cases_lt}
+use Rattle.std.proofs.lemmas.Bool.Decides.{nat_tests}
+use Rattle.std.proofs.lemmas.Option.{slice_get-get_or}
+use Rattle.std.proofs.lemmas.List.{length-append, length-map, length-replicate, replicate-append-replicate, take_at, get_or_append_left, get_or-append_right, get_or-map, get_or-replicate}
+use Rattle.std.proofs.lemmas.List.Elements.{All-nil, All-weaker, All-append, All-map, All-replicate, recursion_from_All}
+use Rattle.std.proofs.lemmas.List.Folds.{flat_map-map, map_fixed}
+use Rattle.std.proofs.lemmas.Grind.{flat_map-append}
+use Rattle.std.proofs.lemmas.Simd.{map-map}
 use Rattle.block.specs.Fields.{fields_of, value_of}
-use Rattle.block.specs.Cutting.{blocks, blocks_of}
-use Rattle.table.specs.Lists.{place, alter_at}
-use Rattle.table.proofs.Bridges.{place_map, place_same, drop_nth, alter_split, nth_within}
+use Rattle.block.proofs.Scanning.{fields_of-end}
+use Rattle.items.specs.Items.{identifier_in}
+use Rattle.table.specs.Lists.{place}
+use Rattle.table.proofs.Bridges.{place_map, place_same}
 use Rattle.cases.specs.Cases.{NameValue, CaseValue}
 use Rattle.cases.specs.Vacant.{vacant}
 use Rattle.cases.specs.Fitness.{Fit}
-use Rattle.books.specs.Books.{has_name, place_of}
+use Rattle.books.specs.Books.{has_name, place_of, names, Apart, fit_capacity}
 use Rattle.coding.specs.CaseFields.{case_fields, case_block}
-use Rattle.coding.specs.Decoding.{case_in}
-use Rattle.image.specs.Image.{cases_in, is_value, named}
+use Rattle.coding.specs.Decoding.{formed_identifier_in, name_in, case_in}
 use Rattle.coding.proofs.Finding.{uetr_value, identifier_value}
 use Rattle.coding.proofs.CaseBlocks.{length-case_block, fields-case_block, case_block_again}
+use Rattle.image.specs.Image.{fit_length, image, ImageOf, held, cases_in, is_value, named}
+use Rattle.image.proofs.Chunks.{joined, length-chunks, take-chunks, chunks-joined, length-joined, joined-chunks}
 
--- the block of a fit case has just the name of the case
-pub named_case_block : (c : CaseValue) → Fit c → (n : NameValue) → named n (case_block c) ≡ has_name n c
+suc_position : (p n : ℕ) → option_map suc (cond (ltb p n) (Some p) None) ≡ cond (ltb (1 + p) (suc n)) (Some (1 + p)) None
+suc_position p n = grind (arith, nat_tests)
+
+-- the place of the first element that passes is its position
+pub place_position : {X : Type 0} (test : X → Bool) (xs : List X) → place test xs ≡ position test xs
+place_position test [] = refl
+place_position test (x ∷ xs) = go (test x) (place_position test xs)
+  where
+    go : (b : Bool) → place test xs ≡ position test xs → cond b (Some 0) (option_map suc (place test xs)) ≡ cond (ltb (cond (not b) (1 + position_or_len test xs) 0) (suc (length xs))) (Some (cond (not b) (1 + position_or_len test xs) 0)) None
+    go true e = sym (cond-true _ _ _ (lt-ltb 0 (suc (length xs)) (omega arith)))
+    go false e = ap (option_map suc) e ∙ suc_position (position_or_len test xs) (length xs)
+
+-- One block.
+
+-- a block of zeros
+pub blank : List ℕ
+blank = replicate 512 0
+
+pub blank-zeros : replicate 512 0 ≡ blank
+unfolding blank
+blank-zeros = refl
+
+length-blank : length blank ≡ 512
+unfolding blank
+length-blank = length-replicate {A = ℕ} 512 0
+
+blank_case : case_in (fields_of blank) ≡ None
+unfolding blank case_in name_in formed_identifier_in identifier_in
+blank_case = ap case_in (fields_of-end (replicate 512 0) refl)
+
+pub joined-blank : (k : ℕ) → joined (replicate k blank) ≡ replicate (512 * k) 0
+unfolding blank
+joined-blank zero = refl
+joined-blank (suc k) = ap (λ r. replicate 512 0 ++ r) (joined-blank k) ∙ replicate-append-replicate 512 (512 * k) 0 ∙ ap (λ j. replicate j 0) (omega arith)
+
+-- the block of a fit case holds the case
+pub held_again : (c : CaseValue) → Fit c → held (case_block c) ≡ c
+held_again c f = ap (λ o. unwrap_or o vacant) (case_block_again c f)
+
+-- and has just its name
+named_case_block : (c : CaseValue) → Fit c → (n : NameValue) → named n (case_block c) ≡ has_name n c
 unfolding named
 named_case_block c f n =
     ap (λ fs. is_value (value_of 2 fs) n.identifier && is_value (value_of 16 fs) n.uetr) (fields-case_block c f)
     ∙ ap (λ o. is_value o n.identifier && is_value (value_of 16 (case_fields c)) n.uetr) (identifier_value c f)
     ∙ ap (λ o. is_value (Some c.name.identifier) n.identifier && is_value o n.uetr) (uetr_value c f)
 
--- a case of a list of fit cases is fit
-pub nth_fit : (cs : List CaseValue) (i : ℕ) (c : CaseValue) → AllByRecursion Fit cs → slice_get cs i ≡ Some c → Fit c
-nth_fit [] i c a e = let z : ◌≡◌ {A = ℕ} 0 1 = cc in absurd (omega arith)
-nth_fit (d ∷ cs) zero c a e = let same : d ≡ c = cc in subst Fit same a.0
-nth_fit (d ∷ cs) (suc i) c a e = nth_fit cs i c a.1 e
+-- The blocks of cases.
 
--- Blocks one after the other.
-
-pub length-cases_in : (n : ℕ) (bs : List ℕ) → length (cases_in n bs) ≡ n
-length-cases_in zero bs = refl
-length-cases_in (suc n) bs = ap suc (length-cases_in n (drop 512 bs))
-
-pub joined_append : (cs ds : List CaseValue) → flat_map case_block (cs ++ ds) ≡ flat_map case_block cs ++ flat_map case_block ds
-joined_append [] ds = refl
-joined_append (c ∷ cs) ds = ap (λ r. case_block c ++ r) (joined_append cs ds) ∙ sym (append_assoc (case_block c) (flat_map case_block cs) (flat_map case_block ds))
-
-pub length-joined : (cs : List CaseValue) → AllByRecursion Fit cs → length (flat_map case_block cs) ≡ 512 * length cs
-length-joined [] a = refl
-length-joined (c ∷ cs) a = length-append (case_block c) (flat_map case_block cs) ∙ omega (arith, length-case_block c a.0, length-joined cs a.1)
-
--- the cases that the blocks hold are the cases that they were written for
-pub cases_in_front : (cs : List CaseValue) → AllByRecursion Fit cs → (zs : List ℕ) → cases_in (length cs) (flat_map case_block cs ++ zs) ≡ cs
-cases_in_front [] a zs = refl
-cases_in_front (c ∷ cs) a zs =
-    let n = length-case_block c a.0 in
-    let e = append_assoc (case_block c) (flat_map case_block cs) zs in
-    let t : take 512 ((case_block c ++ flat_map case_block cs) ++ zs) ≡ case_block c = ap (take 512) e ∙ take_at (case_block c) (flat_map case_block cs ++ zs) 512 n in
-    let d : drop 512 ((case_block c ++ flat_map case_block cs) ++ zs) ≡ flat_map case_block cs ++ zs = ap (drop 512) e ∙ drop_at (case_block c) (flat_map case_block cs ++ zs) 512 n in
-    ap (λ b. unwrap_or (case_in (fields_of b)) vacant ∷ cases_in (length cs) (drop 512 ((case_block c ++ flat_map case_block cs) ++ zs))) t
-    ∙ ap (λ o. unwrap_or o vacant ∷ cases_in (length cs) (drop 512 ((case_block c ++ flat_map case_block cs) ++ zs))) (case_block_again c a.0)
-    ∙ ap (λ r. c ∷ cases_in (length cs) r) d
-    ∙ ap (λ r. c ∷ r) (cases_in_front cs a.1 zs)
-
-blocks_joined : (cs : List CaseValue) → AllByRecursion Fit cs → blocks (length cs) (flat_map case_block cs) ≡ map case_block cs
-blocks_joined [] a = refl
-blocks_joined (c ∷ cs) a =
-    let n = length-case_block c a.0 in
-    ap (λ b. b ∷ blocks (length cs) (drop 512 (case_block c ++ flat_map case_block cs))) (take_at (case_block c) (flat_map case_block cs) 512 n)
-    ∙ ap (λ r. case_block c ∷ blocks (length cs) r) (drop_at (case_block c) (flat_map case_block cs) 512 n)
-    ∙ ap (λ r. case_block c ∷ r) (blocks_joined cs a.1)
+pub held_all_again : (cs : List CaseValue) → All Fit cs → map held (map case_block cs) ≡ cs
+held_all_again cs a = map-map held case_block cs ∙ map_fixed (λ c. held (case_block c)) cs (All-weaker Fit (λ c. held (case_block c) ≡ c) held_again cs a)
 
 -- a name stands among the blocks where it stands among the cases
-pub place_in_blocks : (n : NameValue) (cs : List CaseValue) → AllByRecursion Fit cs → place (named n) (blocks_of (flat_map case_block cs)) ≡ place_of n cs
-unfolding blocks_of
+pub place_in_blocks : (n : NameValue) (cs : List CaseValue) → All Fit cs → position (named n) (map case_block cs) ≡ place_of n cs
 place_in_blocks n cs a =
-    let k : length (flat_map case_block cs) / 512 ≡ length cs = omega (arith, length-joined cs a) in
-    ap (λ m. place (named n) (blocks m (flat_map case_block cs))) k
-    ∙ ap (place (named n)) (blocks_joined cs a)
+    sym (place_position (named n) (map case_block cs))
     ∙ place_map case_block (named n) cs
-    ∙ place_same (λ c. named n (case_block c)) (has_name n) cs (All-weaker Fit (λ c. named n (case_block c) ≡ has_name n c) (λ c f. named_case_block c f n) cs a)
+    ∙ place_same (λ c. named n (case_block c)) (has_name n) cs (recursion_from_All (λ c. named n (case_block c) ≡ has_name n c) cs (All-weaker Fit (λ c. named n (case_block c) ≡ has_name n c) (λ c f. named_case_block c f n) cs a))
 
--- a place, counted from a place further on
-abbrev pub shifted : ℕ → Option ℕ → Option ℕ
-shifted i o = option_map (λ k. i + k) o
+-- the block at a place holds the case at that place
+pub case_at_place : (cs : List CaseValue) → All Fit cs → (bs : List (List ℕ)) → bs ≡ map case_block cs → (i : ℕ) (block : List ℕ) → i < length bs → block ≡ get_or bs i block → case_in (fields_of block) ≡ slice_get cs i
+case_at_place cs a bs s i block h e =
+    let l : i < length cs = omega (arith, ap length s, length-map cs case_block) in
+    let c = get_or cs i vacant in
+    let same : block ≡ case_block c = e ∙ ap (λ xs. get_or xs i block) s ∙ get_or-map case_block cs i vacant block l in
+    ap (λ b. case_in (fields_of b)) same ∙ case_block_again c (a i vacant l) ∙ sym (slice_get-get_or cs i vacant l)
 
-pub shifted_none : (o : Option ℕ) → shifted 0 o ≡ o
-shifted_none None = refl
-shifted_none (Some k) = ap Some (omega arith)
+pub length_cases_in : (n : ℕ) (bytes : List ℕ) → length (cases_in n bytes) ≡ n
+length_cases_in n bytes = length-map (first_chunks 512 n bytes) held ∙ length-chunks 512 n bytes
 
-pub shifted_here : (i : ℕ) → shifted i (Some 0) ≡ Some i
-shifted_here i = ap Some (omega arith)
+-- The blocks of an image.
 
-pub shifted_suc : (i : ℕ) (o : Option ℕ) → shifted i (option_map suc o) ≡ shifted (i + 1) o
-shifted_suc i None = refl
-shifted_suc i (Some k) = ap Some (omega arith)
+abbrev pub image_blocks : ℕ → List CaseValue → List (List ℕ)
+image_blocks n cs = map case_block cs ++ replicate (n - length cs) blank
 
--- The block at a place, and what stands before and behind it.
+joined_image : (n : ℕ) (cs : List CaseValue) → joined (image_blocks n cs) ≡ image n cs
+unfolding image
+joined_image n cs =
+    flat_map-append (λ b. b) (map case_block cs) (replicate (n - length cs) blank)
+    ∙ ap (λ r. r ++ joined (replicate (n - length cs) blank)) (flat_map-map (λ b. b) case_block cs)
+    ∙ ap (λ r. flat_map case_block cs ++ r) (joined-blank (n - length cs))
 
-split_at : (cs : List CaseValue) (i : ℕ) (c : CaseValue) → slice_get cs i ≡ Some c → cs ≡ take i cs ++ c ∷ drop (i + 1) cs
-split_at cs i c e = sym (take-append-drop i cs) ∙ ap (λ r. take i cs ++ r) (drop_nth cs i c e)
+length-image_blocks : (n : ℕ) (cs : List CaseValue) → length (image_blocks n cs) ≡ length cs + (n - length cs)
+length-image_blocks n cs = omega (arith, length-append (map case_block cs) (replicate (n - length cs) blank), length-map cs case_block, length-replicate (n - length cs) blank)
 
-joined_around : (as' : List CaseValue) (c : CaseValue) (bs : List CaseValue) (zs : List ℕ) → flat_map case_block (as' ++ c ∷ bs) ++ zs ≡ flat_map case_block as' ++ (case_block c ++ (flat_map case_block bs ++ zs))
-joined_around as' c bs zs =
-    ap (λ r. r ++ zs) (joined_append as' (c ∷ bs))
-    ∙ append_assoc (flat_map case_block as') (case_block c ++ flat_map case_block bs) zs
-    ∙ ap (λ r. flat_map case_block as' ++ r) (append_assoc (case_block c) (flat_map case_block bs) zs)
+-- the first of them are those of the cases
+pub take-image_blocks : (n : ℕ) (cs : List CaseValue) → take (length cs) (image_blocks n cs) ≡ map case_block cs
+take-image_blocks n cs = take_at (map case_block cs) (replicate (n - length cs) blank) (length cs) (length-map cs case_block)
 
-joined_split : (cs : List CaseValue) (i : ℕ) (c : CaseValue) (zs : List ℕ) → slice_get cs i ≡ Some c → flat_map case_block cs ++ zs ≡ flat_map case_block (take i cs) ++ (case_block c ++ (flat_map case_block (drop (i + 1) cs) ++ zs))
-joined_split cs i c zs e = ap (λ r. flat_map case_block r ++ zs) (split_at cs i c e) ∙ joined_around (take i cs) c (drop (i + 1) cs) zs
+-- bytes of a fit length are whole blocks
+pub whole : (n : ℕ) → fit_length n ≡ true → n ≡ n / 512 * 512
+whole n w = let r = eqb-true (n % 512) 0 (and_parts (eqb (n % 512) 0) (fit_capacity (n / 512)) w).0 in omega arith
 
-pub length_front : (cs : List CaseValue) (i : ℕ) (c : CaseValue) → AllByRecursion Fit cs → slice_get cs i ≡ Some c → length (flat_map case_block (take i cs)) ≡ 512 * i
-length_front cs i c a e =
-    let h : i ≤ length cs = let l = nth_within cs i c e in omega arith in
-    length-joined (take i cs) (All-take Fit i cs a) ∙ ap (λ k. 512 * k) (length-take-le i cs h)
+-- bytes with the blocks of an image are that image
+pub from_blocks : (n : ℕ) (cs : List CaseValue) (bytes : List ℕ) → length bytes ≡ n * 512 → first_chunks 512 n bytes ≡ image_blocks n cs → bytes ≡ image n cs
+from_blocks n cs bytes l e = sym (joined-chunks 512 n bytes l) ∙ ap joined e ∙ joined_image n cs
 
--- a part of 512 bytes behind 512 * i others: read, and written over
-module _ (ps xs ss : List ℕ) (i : ℕ) (m : length ps ≡ 512 * i) (k : length xs ≡ 512) where
-  part_read : take 512 (drop (512 * i) (ps ++ (xs ++ ss))) ≡ xs
-  part_read = ap (take 512) (drop_at ps (xs ++ ss) (512 * i) m) ∙ take_at xs ss 512 k
+pub image_from_blocks : (bytes : List ℕ) (cs : List CaseValue) → fit_length (length bytes) ≡ true → All Fit cs → Apart (names cs) → first_chunks 512 (length bytes / 512) bytes ≡ image_blocks (length bytes / 512) cs → ImageOf bytes cs
+image_from_blocks bytes cs w f a e =
+    let n = length bytes / 512 in
+    record {
+      capacity = (and_parts (eqb (length bytes % 512) 0) (fit_capacity n) w).1;
+      within = omega (arith, length-chunks 512 n bytes, ap length e, length-image_blocks n cs);
+      fit = f;
+      apart = a;
+      form = from_blocks n cs bytes (whole (length bytes) w) e;
+    }
 
-  part_written : (ys : List ℕ) → take (512 * i) (ps ++ (xs ++ ss)) ++ (ys ++ drop (512 * i + 512) (ps ++ (xs ++ ss))) ≡ ps ++ (ys ++ ss)
-  part_written ys =
-      let d : drop (512 * i + 512) (ps ++ (xs ++ ss)) ≡ ss =
-      sym (drop-drop 512 (512 * i) (ps ++ (xs ++ ss))) ∙ ap (drop 512) (drop_at ps (xs ++ ss) (512 * i) m) ∙ drop_at xs ss 512 k in
-      ap (λ r. r ++ (ys ++ drop (512 * i + 512) (ps ++ (xs ++ ss)))) (take_at ps (xs ++ ss) (512 * i) m) ∙ ap (λ r. ps ++ (ys ++ r)) d
+pub image_blocks-none : (n : ℕ) → first_chunks 512 n (replicate (512 * n) 0) ≡ image_blocks n []
+image_blocks-none n =
+    ap (first_chunks 512 n) (sym (joined-blank n))
+    ∙ ap (λ k. first_chunks 512 k (joined (replicate n blank))) (sym (length-replicate n blank))
+    ∙ chunks-joined 512 (replicate n blank) (All-replicate (λ b. length b ≡ 512) n blank length-blank)
+    ∙ ap (λ k. replicate k blank) (omega arith)
 
--- Cases with bytes behind them: the block at a place is read, is written over, or is the first behind the cases.
+-- zeros are the image of no cases
+pub image_of_none : (n : ℕ) → fit_length n ≡ true → ImageOf (replicate n 0) []
+image_of_none n w =
+    let l = length-replicate {A = ℕ} n 0 in
+    image_from_blocks (replicate n 0) [] (ap fit_length l ∙ w) (All-nil Fit) tt
+    (ap (λ k. first_chunks 512 (k / 512) (replicate n 0)) l
+    ∙ ap (λ k. first_chunks 512 (n / 512) (replicate k 0)) (omega (arith, whole n w))
+    ∙ image_blocks-none (n / 512)
+    ∙ ap (λ k. image_blocks (k / 512) []) (sym l))
 
--- bytes with a block written at the place i
-abbrev pub with_block : List ℕ → ℕ → List ℕ → List ℕ
-with_block bytes i block = take (512 * i) bytes ++ (block ++ drop (512 * i + 512) bytes)
+module _ (bytes : List ℕ) (cs : List CaseValue) (i : ImageOf bytes cs) where
+  even : All (λ b. length b ≡ 512) (image_blocks (length bytes / 512) cs)
+  even =
+      let P : List ℕ → Type 0 = λ b. length b ≡ 512 in
+      All-append P (map case_block cs) _ (All-map P case_block cs (All-weaker Fit (λ c. length (case_block c) ≡ 512) length-case_block cs i.fit)) (All-replicate P (length bytes / 512 - length cs) blank length-blank)
 
-module _ (cs : List CaseValue) (a : AllByRecursion Fit cs) (zs : List ℕ) where
-  pub read_front : (i : ℕ) (c : CaseValue) → slice_get cs i ≡ Some c → take 512 (drop (512 * i) (flat_map case_block cs ++ zs)) ≡ case_block c
-  read_front i c e =
-      let f : Fit c = nth_fit cs i c a e in
-      ap (λ r. take 512 (drop (512 * i) r)) (joined_split cs i c zs e)
-      ∙ part_read (flat_map case_block (take i cs)) (case_block c) (flat_map case_block (drop (i + 1) cs) ++ zs) i (length_front cs i c a e) (length-case_block c f)
+  many : length (image_blocks (length bytes / 512) cs) ≡ length bytes / 512
+  many = let w = i.within in omega (arith, length-image_blocks (length bytes / 512) cs)
 
-  pub written_front : (g : CaseValue → CaseValue) (i : ℕ) (c : CaseValue) → slice_get cs i ≡ Some c → with_block (flat_map case_block cs ++ zs) i (case_block (g c)) ≡ flat_map case_block (alter_at i g cs) ++ zs
-  written_front g i c e =
-      let f : Fit c = nth_fit cs i c a e in
-      ap (λ r. with_block r i (case_block (g c))) (joined_split cs i c zs e)
-      ∙ part_written (flat_map case_block (take i cs)) (case_block c) (flat_map case_block (drop (i + 1) cs) ++ zs) i (length_front cs i c a e) (length-case_block c f) (case_block (g c))
-      ∙ sym (joined_around (take i cs) (g c) (drop (i + 1) cs) zs)
-      ∙ ap (λ r. flat_map case_block r ++ zs) (sym (alter_split g cs i c e))
+  bytes_joined : bytes ≡ joined (image_blocks (length bytes / 512) cs)
+  bytes_joined = i.form ∙ sym (joined_image (length bytes / 512) cs)
 
-  pub written_behind : (d : CaseValue) (xs : List ℕ) → length xs ≡ 512 → with_block (flat_map case_block cs ++ (xs ++ zs)) (length cs) (case_block d) ≡ flat_map case_block (cs ++ d ∷ []) ++ zs
-  written_behind d xs k =
-      part_written (flat_map case_block cs) xs zs (length cs) (length-joined cs a) k (case_block d)
-      ∙ sym (append_assoc (flat_map case_block cs) (case_block d) zs)
-      ∙ ap (λ r. r ++ zs) (flat_map_more case_block [] cs d)
+  pub image_length : fit_length (length bytes) ≡ true
+  image_length =
+      let n = length bytes / 512 in
+      let l : length bytes ≡ n * 512 = ap length bytes_joined ∙ length-joined 512 (image_blocks n cs) even ∙ ap (λ k. k * 512) many in
+      and_from (eqb (length bytes % 512) 0) (fit_capacity n) (eq-eqb (length bytes % 512) 0 (omega arith)) i.capacity
+
+  pub whole_image : length bytes ≡ length bytes / 512 * 512
+  whole_image = whole (length bytes) image_length
+
+  pub blocks_from_image : first_chunks 512 (length bytes / 512) bytes ≡ image_blocks (length bytes / 512) cs
+  blocks_from_image =
+      let n = length bytes / 512 in
+      ap (λ k. first_chunks 512 k bytes) (sym many)
+      ∙ ap (first_chunks 512 (length (image_blocks n cs))) bytes_joined
+      ∙ chunks-joined 512 (image_blocks n cs) even
+
+  -- the first blocks are those of the cases
+  pub first_blocks : (k : ℕ) → k ≡ length cs → take k (first_chunks 512 (length bytes / 512) bytes) ≡ map case_block cs
+  first_blocks k e = ap₂ take e blocks_from_image ∙ take-image_blocks (length bytes / 512) cs
+
+  pub cases_again : (k : ℕ) → k ≡ length cs → cases_in k bytes ≡ cs
+  cases_again k e =
+      let w = i.within in
+      ap (map held) (sym (take-chunks 512 k (length bytes / 512) bytes (omega arith)) ∙ first_blocks k e) ∙ held_all_again cs i.fit
+
+  -- what stands at a place: a case's block, or a blank one behind the cases
+  pub block_at : (k : ℕ) (d : List ℕ) → k < length cs → get_or (first_chunks 512 (length bytes / 512) bytes) k d ≡ case_block (get_or cs k vacant)
+  block_at k d h =
+      let m = length-map cs case_block in
+      ap (λ bs. get_or bs k d) blocks_from_image
+      ∙ get_or_append_left (map case_block cs) (replicate (length bytes / 512 - length cs) blank) d k (omega arith)
+      ∙ get_or-map case_block cs k vacant d h
+
+  blank_at : (k : ℕ) → length cs ≤ k → k < length bytes / 512 → get_or (first_chunks 512 (length bytes / 512) bytes) k blank ≡ blank
+  blank_at k h l =
+      ap (λ bs. get_or bs k blank) blocks_from_image
+      ∙ get_or-append_right (map case_block cs) (replicate (length bytes / 512 - length cs) blank) (length cs) k blank (length-map cs case_block) h
+      ∙ get_or-replicate (length bytes / 512 - length cs) (k - length cs) blank blank (omega arith)
+
+-- bytes are the image of no more cases than they are seen to be
+no_more : (bytes : List ℕ) (cs ds : List CaseValue) → ImageOf bytes cs → ImageOf bytes ds → length ds ≤ length cs
+no_more bytes cs ds i j =
+    ⊎_elim
+    (λ (h : length cs < length ds).
+    let d = get_or ds (length cs) vacant in
+    let w = j.within in
+    let same : blank ≡ case_block d = sym (blank_at bytes cs i (length cs) (omega arith) (omega arith)) ∙ block_at bytes ds j (length cs) blank h in
+    let q : None ≡ Some d = sym blank_case ∙ ap (λ b. case_in (fields_of b)) same ∙ case_block_again d (j.fit (length cs) vacant h) in
+    absurd (cc))
+    (λ (h : length ds ≤ length cs). h)
+    (cases_lt (length cs) (length ds))
+
+-- so they are the image of one list of cases
+pub one_list : (bytes : List ℕ) (cs ds : List CaseValue) → ImageOf bytes cs → ImageOf bytes ds → ds ≡ cs
+one_list bytes cs ds i j =
+    let e : length ds ≡ length cs = let a = no_more bytes cs ds i j in let b = no_more bytes ds cs j i in omega arith in
+    sym (cases_again bytes ds j (length ds) refl) ∙ cases_again bytes cs i (length ds) e

@@ -1,146 +1,78 @@
 -- Bytes that are the image of cases stay the image of the cases that opening and changing leave.
-use Rattle.std.proofs.Common.{◌≡◌, ℕ, zero, suc, ◌-◌, ◌*◌, ◌/◌, ◌<◌, ◌≤◌, true, false, leb, List, [], ◌∷◌, ◌++◌, length, get_or, take, drop, replicate, is_some, IfSome, Some, None, sym, refl, ap, ◌∙◌, subst, ⊎_elim, arith}
-use Rattle.std.specs.List.{slice_get, flat_map, AllByRecursion}
-use Rattle.std.proofs.ByRecursion.{All-push}
-use Rattle.std.proofs.lemmas.Option.{slice_get-get_or}
-use Rattle.std.proofs.lemmas.Bool.{and_parts, leb-true, cases_lt}
-use Rattle.std.proofs.lemmas.List.{length-append, length-replicate, length_push, replicate-append-replicate, take_at, drop_at, take-replicate}
-use Rattle.block.specs.Fields.{fields_of}
-use Rattle.block.specs.Cutting.{blocks_of}
-use Rattle.block.proofs.Scanning.{fields_of-end}
-use Rattle.items.specs.Items.{identifier_in}
-use Rattle.table.specs.Lists.{place, alter_at}
-use Rattle.table.proofs.Bridges.{map-alter, length-alter}
-use Rattle.values.specs.Identifiers.{identifier}
-use Rattle.cases.specs.Cases.{NameValue, StateValue, CaseValue, with_state}
-use Rattle.cases.specs.Vacant.{vacant}
-use Rattle.cases.specs.Numbers.{closing_of}
+use Rattle.std.proofs.Common.{◌≡◌, ℕ, zero, suc, ◌+◌, ◌-◌, ◌*◌, ◌/◌, ◌<◌, false, List, [], ◌∷◌, ◌++◌, map, length, take, drop, set, replicate, is_some, Some, sym, refl, ap, ◌∙◌, subst, arith}
+use Rattle.std.specs.List.{slice_get, All}
+use Rattle.std.specs.Simd.{first_chunks}
+use Rattle.std.proofs.lemmas.List.{append_assoc, length-map, length-set, length_push, map-set, map_push, set_at, set-append_left}
+use Rattle.std.proofs.lemmas.List.Elements.{All-set, All-push, All-same}
+use Rattle.std.proofs.lemmas.Option.{slice_get_within}
+use Rattle.table.specs.Lists.{alter_at}
+use Rattle.table.proofs.Bridges.{map-alter}
+use Rattle.cases.specs.Cases.{StateValue, CaseValue, with_state}
 use Rattle.cases.specs.Fitness.{Fit}
-use Rattle.books.specs.Books.{place_of, changed, names, Apart, fit_capacity}
+use Rattle.books.specs.Books.{place_of, changed, names, Apart}
 use Rattle.books.proofs.Naming.{apart-push, names-push, names_differ}
 use Rattle.coding.specs.CaseFields.{case_block}
-use Rattle.coding.specs.Decoding.{formed_identifier_in, name_in, case_in}
-use Rattle.image.specs.Image.{image, ImageOf, cases_in, named}
-use Rattle.coding.proofs.CaseBlocks.{case_block_again}
-use Rattle.image.proofs.Images.{length-joined, cases_in_front, place_in_blocks, nth_fit, with_block, read_front, written_front, written_behind}
+use Rattle.coding.proofs.CaseBlocks.{length-case_block}
+use Rattle.image.specs.Image.{fit_length, ImageOf}
+use Rattle.image.proofs.Chunks.{chunks-written}
+use Rattle.image.proofs.Images.{blank, image_blocks, whole_image, image_from_blocks, image_length, blocks_from_image}
 
--- a fit case in a fit state
-pub fit_state : (s : StateValue) → IfSome (closing_of s) (λ id. identifier id ≡ true) → (c : CaseValue) → Fit c → Fit (with_state s c)
-fit_state s g c f =
-    record {
-      identifier = f.identifier;
-      uetr = f.uetr;
-      subject = f.subject;
-      end_to_end = f.end_to_end;
-      amount = f.amount;
-      opener = f.opener;
-      assignee = f.assignee;
-      closing = g;
-    }
+-- altering what stands at a place sets it there
+alter_set : {X : Type 0} (f : X → X) (xs : List X) (i : ℕ) (x : X) → slice_get xs i ≡ Some x → alter_at i f xs ≡ set xs i (f x)
+alter_set f [] i x e = refl
+alter_set f (y ∷ xs) zero x e = let same : y ≡ x = cc in ap (λ z. f z ∷ xs) same
+alter_set f (y ∷ xs) (suc i) x e = ap (λ r. y ∷ r) (alter_set f xs i x e)
 
-all-alter : (g : CaseValue → CaseValue) → ((c : CaseValue) → Fit c → Fit (g c)) → (cs : List CaseValue) (i : ℕ) → AllByRecursion Fit cs → AllByRecursion Fit (alter_at i g cs)
-all-alter g h [] i a = tt
-all-alter g h (c ∷ cs) zero a = (h c a.0, a.1)
-all-alter g h (c ∷ cs) (suc i) a = (a.0, all-alter g h cs i a.1)
-
--- an image of n blocks has 512 bytes for each
-pub length-image : (n : ℕ) (cs : List CaseValue) → AllByRecursion Fit cs → length cs ≤ n → length (image n cs) ≡ 512 * n
-unfolding image
-length-image n cs a h = length-append (flat_map case_block cs) _ ∙ omega (arith, length-joined cs a, length-replicate {A = ℕ} (512 * (n - length cs)) 0)
-
--- the block behind the cases, written
-pub image-push : (n : ℕ) (cs : List CaseValue) (d : CaseValue) → AllByRecursion Fit cs → length cs < n → with_block (image n cs) (length cs) (case_block d) ≡ image n (cs ++ d ∷ [])
-unfolding image
-image-push n cs d a h =
-    let m = length_push cs d in
+-- one more case
+pub blocks-opened : (n : ℕ) (cs : List CaseValue) (d : CaseValue) → length cs < n → set (image_blocks n cs) (length cs) (case_block d) ≡ image_blocks n (cs ++ d ∷ [])
+blocks-opened n cs d h =
     let k = n - length (cs ++ d ∷ []) in
-    let z : ◌≡◌ {A = List ℕ} (replicate (512 * (n - length cs)) 0) (replicate 512 0 ++ replicate (512 * k) 0) =
-    ap (λ j. replicate j 0) (omega arith) ∙ sym (replicate-append-replicate 512 (512 * k) 0) in
-    ap (λ r. with_block (flat_map case_block cs ++ r) (length cs) (case_block d)) z
-    ∙ written_behind cs a (replicate (512 * k) 0) d (replicate 512 0) (length-replicate {A = ℕ} 512 0)
+    let m = length_push cs d in
+    let z : n - length cs ≡ suc k = omega arith in
+    ap (λ j. set (map case_block cs ++ replicate j blank) (length cs) (case_block d)) z
+    ∙ set_at (map case_block cs) blank (replicate k blank) (case_block d) (length cs) (length-map cs case_block)
+    ∙ sym (append_assoc (map case_block cs) (case_block d ∷ []) (replicate k blank))
+    ∙ ap (λ r. r ++ replicate k blank) (sym (map_push case_block cs d))
 
-module _ (bytes : List ℕ) (cs : List CaseValue) (s : ImageOf bytes cs) where
-  pub length_whole : length bytes ≡ 512 * (length bytes / 512)
-  length_whole = ap length s.form ∙ length-image (length bytes / 512) cs s.fit s.within
+-- a case that is set
+blocks-set : (n : ℕ) (cs : List CaseValue) (i : ℕ) (d : CaseValue) → i < length cs → set (image_blocks n cs) i (case_block d) ≡ image_blocks n (set cs i d)
+blocks-set n cs i d h =
+    let m = length-map cs case_block in
+    set-append_left (map case_block cs) (replicate (n - length cs) blank) i (case_block d) (omega arith)
+    ∙ ap (λ r. r ++ replicate (n - length cs) blank) (sym (map-set case_block cs i d))
+    ∙ ap (λ k. map case_block (set cs i d) ++ replicate (n - k) blank) (sym (length-set cs i d))
 
-  pub capacity_most : length bytes / 512 ≤ 4096
-  capacity_most = leb-true (length bytes / 512) 4096 (and_parts (leb 1 (length bytes / 512)) (leb (length bytes / 512) 4096) s.capacity).1
+-- bytes with a block written at the place i
+abbrev pub with_block : List ℕ → ℕ → List ℕ → List ℕ
+with_block bytes i block = take (512 * i) bytes ++ (block ++ drop (512 * i + 512) bytes)
 
-  -- the cases, and zeros behind them
-  front : bytes ≡ flat_map case_block cs ++ replicate (512 * (length bytes / 512 - length cs)) 0
-  unfolding image
-  front = s.form
+-- the block of a case is written into bytes that have the blocks of an image
+pub blocks-written : (n i : ℕ) (bytes : List ℕ) (cs : List CaseValue) (d : CaseValue) → length bytes ≡ n * 512 → first_chunks 512 n bytes ≡ image_blocks n cs → Fit d → i < n → first_chunks 512 n (with_block bytes i (case_block d)) ≡ set (image_blocks n cs) i (case_block d)
+blocks-written n i bytes cs d l e f h = chunks-written 512 n i (512 * i) bytes (case_block d) (omega arith) h (omega arith) (length-case_block d f) ∙ ap (λ bs. set bs i (case_block d)) e
 
-  pub cases_again : cases_in (length cs) bytes ≡ cs
-  cases_again = ap (cases_in (length cs)) front ∙ cases_in_front cs s.fit (replicate (512 * (length bytes / 512 - length cs)) 0)
+module _ (bytes : List ℕ) (cs : List CaseValue) (s : ImageOf bytes cs) (more : List ℕ) (long : length more ≡ length bytes) where
+  remade : (i : ℕ) (d : CaseValue) (ds : List CaseValue) → Fit d → i < length bytes / 512 → more ≡ with_block bytes i (case_block d) → All Fit ds → Apart (names ds) → set (image_blocks (length bytes / 512) cs) i (case_block d) ≡ image_blocks (length bytes / 512) ds → ImageOf more ds
+  remade i d ds f h e a p q =
+      let n = length bytes / 512 in
+      image_from_blocks more ds (ap fit_length long ∙ image_length bytes cs s) a p
+      (ap (λ k. first_chunks 512 (k / 512) more) long
+      ∙ ap (first_chunks 512 n) e
+      ∙ blocks-written n i bytes cs d (whole_image bytes cs s) (blocks_from_image bytes cs s) f h
+      ∙ q
+      ∙ ap (λ k. image_blocks (k / 512) ds) (sym long))
 
-  pub block_read : (i : ℕ) (c : CaseValue) → slice_get cs i ≡ Some c → case_in (fields_of (take 512 (drop (512 * i) bytes))) ≡ Some c
-  block_read i c e =
-      ap (λ b. case_in (fields_of (take 512 (drop (512 * i) b)))) front
-      ∙ ap (λ b. case_in (fields_of b)) (read_front cs s.fit (replicate (512 * (length bytes / 512 - length cs)) 0) i c e)
-      ∙ case_block_again c (nth_fit cs i c s.fit e)
-
-  pub name_found : (n : NameValue) → place (named n) (blocks_of (take (512 * length cs) bytes)) ≡ place_of n cs
-  name_found n =
-      ap (λ b. place (named n) (blocks_of (take (512 * length cs) b))) front
-      ∙ ap (λ b. place (named n) (blocks_of b)) (take_at (flat_map case_block cs) (replicate (512 * (length bytes / 512 - length cs)) 0) (512 * length cs) (length-joined cs s.fit))
-      ∙ place_in_blocks n cs s.fit
-
-  -- bytes of other cases, as many blocks
-  remade : (more : List ℕ) (ds : List CaseValue) → length ds ≤ length bytes / 512 → AllByRecursion Fit ds → Apart (names ds) → more ≡ image (length bytes / 512) ds → ImageOf more ds
-  remade more ds h a p e =
-      let l : length more ≡ 512 * (length bytes / 512) = ap length e ∙ length-image (length bytes / 512) ds a h in
-      let r : length more / 512 ≡ length bytes / 512 = omega arith in
-      record {
-        capacity = ap fit_capacity r ∙ s.capacity;
-        within = rw r h;
-        fit = a;
-        apart = p;
-        form = e ∙ ap (λ k. image k ds) (sym r);
-      }
-
-  pub changed_image : (t : StateValue) → IfSome (closing_of t) (λ id. identifier id ≡ true) → (i : ℕ) (c : CaseValue) → slice_get cs i ≡ Some c → ImageOf (with_block bytes i (case_block (with_state t c))) (changed i t cs)
-  unfolding image
-  changed_image t g i c e =
-      let zs = replicate (512 * (length bytes / 512 - length cs)) 0 in
-      let n = length-alter (with_state t) cs i in
-      remade (with_block bytes i (case_block (with_state t c))) (changed i t cs) (rw n s.within)
-      (all-alter (with_state t) (fit_state t g) cs i s.fit)
-      (subst Apart (sym (map-alter (λ (k : CaseValue). k.name) (with_state t) cs i (λ k. refl))) s.apart)
-      (ap (λ b. with_block b i (case_block (with_state t c))) front
-      ∙ written_front cs s.fit zs (with_state t) i c e
-      ∙ ap (λ k. flat_map case_block (changed i t cs) ++ replicate (512 * (length bytes / 512 - k)) 0) (sym n))
-
-  pub opened_image : (d : CaseValue) → Fit d → length cs < length bytes / 512 → is_some (place_of d.name cs) ≡ false → ImageOf (with_block bytes (length cs) (case_block d)) (cs ++ d ∷ [])
-  opened_image d f h q =
-      remade (with_block bytes (length cs) (case_block d)) (cs ++ d ∷ []) (let m = length_push cs d in omega arith) (All-push Fit cs d s.fit f)
+  pub opened_image : (d : CaseValue) → Fit d → length cs < length bytes / 512 → is_some (place_of d.name cs) ≡ false → more ≡ with_block bytes (length cs) (case_block d) → ImageOf more (cs ++ d ∷ [])
+  opened_image d f h q e =
+      remade (length cs) d (cs ++ d ∷ []) f h e (All-push Fit cs d s.fit f)
       (subst Apart (sym (names-push cs d)) (apart-push (names cs) d.name s.apart (names_differ d.name cs q)))
-      (ap (λ b. with_block b (length cs) (case_block d)) s.form ∙ image-push (length bytes / 512) cs d s.fit h)
+      (blocks-opened (length bytes / 512) cs d h)
 
--- a block of zeros holds no case
-blank_case : case_in (fields_of (replicate 512 0)) ≡ None
-unfolding case_in name_in formed_identifier_in identifier_in
-blank_case = ap case_in (fields_of-end (replicate 512 0) refl)
-
--- bytes are the image of no more cases than they are seen to be
-no_more : (bytes : List ℕ) (cs ds : List CaseValue) → ImageOf bytes cs → ImageOf bytes ds → length ds ≤ length cs
-no_more bytes cs ds i j =
-    ⊎_elim
-    (λ (h : length cs < length ds).
-    let m = 512 * (length bytes / 512 - length cs) in
-    let w = j.within in
-    let some = slice_get-get_or ds (length cs) vacant h in
-    let zeros : take 512 (drop (512 * length cs) bytes) ≡ replicate 512 0 =
-    ap (λ b. take 512 (drop (512 * length cs) b)) (front bytes cs i)
-    ∙ ap (take 512) (drop_at (flat_map case_block cs) (replicate m 0) (512 * length cs) (length-joined cs i.fit))
-    ∙ take-replicate 512 m 0 (omega arith) in
-    let q : None ≡ Some (get_or ds (length cs) vacant) = sym (ap (λ b. case_in (fields_of b)) zeros ∙ blank_case) ∙ block_read bytes ds j (length cs) (get_or ds (length cs) vacant) some in
-    absurd (let z : ◌≡◌ {A = ℕ} 0 1 = cc in omega arith))
-    (λ (h : length ds ≤ length cs). h)
-    (cases_lt (length cs) (length ds))
-
--- so they are the image of one list of cases
-pub one_list : (bytes : List ℕ) (cs ds : List CaseValue) → ImageOf bytes cs → ImageOf bytes ds → ds ≡ cs
-one_list bytes cs ds i j =
-    let e : length cs ≡ length ds = let a = no_more bytes cs ds i j in let b = no_more bytes ds cs j i in omega arith in
-    sym (cases_again bytes ds j) ∙ ap (λ n. cases_in n bytes) (sym e) ∙ cases_again bytes cs i
+  pub changed_image : (t : StateValue) (i : ℕ) (c : CaseValue) → Fit (with_state t c) → slice_get cs i ≡ Some c → more ≡ with_block bytes i (case_block (with_state t c)) → ImageOf more (changed i t cs)
+  changed_image t i c f q e =
+      let h = slice_get_within cs i c q in
+      let w = s.within in
+      let same = alter_set (with_state t) cs i c q in
+      remade i (with_state t c) (changed i t cs) f (omega arith) e
+      (All-same Fit (changed i t cs) (set cs i (with_state t c)) same (All-set Fit cs i (with_state t c) f s.fit))
+      (subst Apart (sym (map-alter (λ (k : CaseValue). k.name) (with_state t) cs i (λ k. refl))) s.apart)
+      (blocks-set (length bytes / 512) cs i (with_state t c) h ∙ ap (image_blocks (length bytes / 512)) (sym same))

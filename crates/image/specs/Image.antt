@@ -1,8 +1,9 @@
 -- Images: one case a block, then blocks of zeros.
-use Rattle.std.specs.Prelude.{◌≡◌, ℕ, zero, suc, ◌-◌, ◌*◌, ◌/◌, ◌%◌, ◌≤◌, Bool, true, false, ◌&&◌, List, [], ◌∷◌, ◌++◌, length, take, drop, replicate, Some, None, Option, ◌==◌, nat_eq}
-use Rattle.std.specs.List.{flat_map, AllByRecursion}
+use Rattle.std.specs.Prelude.{◌≡◌, ℕ, ◌-◌, ◌*◌, ◌/◌, ◌%◌, ◌≤◌, Bool, true, false, ◌&&◌, List, ◌++◌, map, length, replicate, Some, None, Option, All, ◌==◌}
+use Rattle.std.specs.List.{flat_map, list_all}
 use Rattle.std.specs.Option.{unwrap_or}
-use Rattle.octets.specs.Bytes.{same_bytes, every}
+use Rattle.std.specs.Simd.{first_chunks}
+use Rattle.octets.specs.Bytes.{same_bytes}
 use Rattle.block.specs.Fields.{fields_of, value_of}
 use Rattle.cases.specs.Cases.{NameValue, CaseValue}
 use Rattle.cases.specs.Vacant.{vacant}
@@ -21,20 +22,23 @@ fit_length n = n % 512 == 0 && fit_capacity (n / 512)
 
 -- all bytes are zero
 abbrev pub all_zero : List ℕ → Bool
-all_zero bs = every (λ b. nat_eq b 0) bs
+all_zero bs = list_all (λ b. b == 0) bs
 
 -- the bytes are the image of these cases: 1 to 4,096 blocks, no more cases than blocks, each case fit, no name twice
 pub record ImageOf (bytes : List ℕ) (cs : List CaseValue) : Type 0 where
   pub capacity : fit_capacity (length bytes / 512) ≡ true
   pub within : length cs ≤ length bytes / 512
-  pub fit : AllByRecursion Fit cs
+  pub fit : All Fit cs
   pub apart : Apart (names cs)
   pub form : bytes ≡ image (length bytes / 512) cs
 
--- the cases that the first n blocks of some bytes hold; a block that holds none counts as vacant
+-- the case that a block holds; a block that holds none counts as vacant
+abbrev pub held : List ℕ → CaseValue
+held block = unwrap_or (case_in (fields_of block)) vacant
+
+-- the cases that the first n blocks of some bytes hold
 abbrev pub cases_in : ℕ → List ℕ → List CaseValue
-cases_in zero bs = []
-cases_in (suc n) bs = unwrap_or (case_in (fields_of (take 512 bs))) vacant ∷ cases_in n (drop 512 bs)
+cases_in n bytes = map held (first_chunks 512 n bytes)
 
 -- a value that was looked for is there, and is this one
 abbrev pub is_value : Option (List ℕ) → List ℕ → Bool

@@ -1,34 +1,28 @@
-//! The blocks of an image: finding a name, and reading and writing one block.
+//! The blocks of an image: finding a name, and writing a case.
 ghost use Rattle.std.specs.Prelude.{◌≡◌, ◌+◌, ◌*◌, ◌≤◌, ◌++◌, length, take, drop};
-ghost use Rattle.std.specs.Option.{option_map};
 ghost use Rattle.block.specs.Fields.{fields_of, value_of};
-ghost use Rattle.block.specs.Cutting.{blocks_of};
-ghost use Rattle.table.specs.Lists.{place};
+ghost use Rattle.std.specs.List.{position};
 ghost use Rattle.cases.specs.Views.{name_view, view};
 ghost use Rattle.tags.specs.Tags.{number_of};
 ghost use Rattle.coding.specs.CaseFields.{case_block};
-ghost use Rattle.coding.specs.Decoding.{case_in};
 ghost use Rattle.image.specs.Image.{is_value, named};
 
 use block::BLOCK;
 use block::reader::value;
 use cases::case::{Case, CaseName};
-use coding::{case_block, read_case};
-use octets::same_bytes;
+use coding::case_block;
 use tags::listing::Tag;
 
 /// Whether the field of a tag is there and has this value.
-fn has_value(block: &[u8], tag: Tag, bytes: &[u8]) -> bool
+fn has_value(block: &[u8; BLOCK], tag: Tag, bytes: &[u8]) -> bool
     ensures { result ≡ is_value (value_of (number_of tag) (fields_of block.now)) bytes.now }
 {
-    match value(block, tag.number()) {
-        Some(found) => same_bytes(found, bytes),
-        None => false,
-    }
+    value(block, tag.number()) == Some(bytes)
 }
 
 /// Whether a block has this name. The reference is looked for only where the identifier is the same.
-fn is_named(block: &[u8], name: &CaseName) -> bool
+#[tactic(auto, unfolding(crate::specs::Image::named))]
+fn is_named(block: &[u8; BLOCK], name: &CaseName) -> bool
     ensures { result ≡ named (name_view name.now) block.now }
 {
     has_value(block, Tag::Identifier, &name.identifier.bytes)
@@ -36,28 +30,10 @@ fn is_named(block: &[u8], name: &CaseName) -> bool
 }
 
 /// The place of the first block of this name.
-pub(crate) fn find_in(bytes: &[u8], name: &CaseName) -> Option<usize>
-    ensures { result ≡ place (named (name_view name.now)) (blocks_of bytes.now) }
+pub(crate) fn find_in(blocks: &[[u8; BLOCK]], name: &CaseName) -> Option<usize>
+    ensures { result ≡ position (named (name_view name.now)) blocks.now }
 {
-    let mut at = 0;
-    let mut rest = bytes;
-    while let Some((block, more)) = rest.split_first_chunk::<BLOCK>() {
-        if is_named(block, name) {
-            return Some(at);
-        }
-        at += 1;
-        rest = more;
-    }
-    None
-}
-
-/// The case that the block at a place holds.
-pub(crate) fn read_at(bytes: &[u8], at: usize) -> Option<Case>
-    requires { 512 * at + 512 ≤ length bytes.now }
-    ensures { option_map view result ≡ case_in (fields_of (take 512 (drop (512 * at) bytes.now))) }
-{
-    let start = BLOCK * at;
-    read_case(&bytes[start..start + BLOCK])
+    blocks.iter().position(|block| is_named(block, name))
 }
 
 /// Writes a case into the block at a place, and touches no other block.
@@ -65,7 +41,7 @@ pub(crate) fn write_at(bytes: &mut [u8], at: usize, case: &Case)
     requires { 512 * at + 512 ≤ length bytes.old }
     ensures { bytes.new ≡ take (512 * at) bytes.old ++ (case_block (view case.now) ++ drop (512 * at + 512) bytes.old) }
 {
-    let block = case_block(case);
+    // `as_chunks_mut` shows the block itself, but the library does not say what the bytes are afterwards.
     let start = BLOCK * at;
-    bytes[start..start + BLOCK].copy_from_slice(&block);
+    bytes[start..start + BLOCK].copy_from_slice(&case_block(case));
 }

@@ -12,39 +12,33 @@ use coding::exact_case;
 pub(crate) fn has_fit_length(bytes: &[u8]) -> bool
     ensures { result ≡ fit_length (length bytes.now) }
 {
-    let blocks = bytes.len() / BLOCK;
-    bytes.len() % BLOCK == 0 && 1 <= blocks && blocks <= MOST
+    bytes.len() % BLOCK == 0 && (1..=MOST).contains(&(bytes.len() / BLOCK))
 }
 
 /// Whether all bytes are zero.
 fn is_blank(bytes: &[u8]) -> bool
     ensures { result ≡ all_zero bytes.now }
 {
-    for byte in bytes {
-        if *byte != 0 {
-            return false;
-        }
-    }
-    true
+    bytes.iter().all(|byte| *byte == 0)
 }
 
 /// How many cases bytes are the image of, if they are an image.
+#[tactic(auto, using(crate::proofs::Images::image_length))]
 pub(crate) fn count_cases(bytes: &[u8]) -> Option<usize>
     ensures { MatchOption result ((cs : List CaseValue) → ImageOf bytes.now cs → ⊥) (λ n. ImageOf bytes.now (cases_in n bytes.now)) }
 {
     if !has_fit_length(bytes) {
         return None;
     }
-    let mut at = 0;
-    let mut rest = bytes;
-    while !is_blank(rest) {
-        let (block, more) = rest.split_first_chunk::<BLOCK>()?;
+    let (blocks, _) = bytes.as_chunks::<BLOCK>();
+    for (at, block) in blocks.iter().enumerate() {
+        if is_blank(blocks[at..].as_flattened()) {
+            return Some(at);
+        }
         let case = exact_case(block)?;
-        if find_in(&bytes[0..BLOCK * at], &case.name).is_some() {
+        if find_in(&blocks[..at], &case.name).is_some() {
             return None;
         }
-        at += 1;
-        rest = more;
     }
-    Some(at)
+    Some(blocks.len())
 }

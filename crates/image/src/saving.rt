@@ -14,10 +14,11 @@ pub fn save<B: CaseBook>(book: &B, bytes: &mut [u8]) -> Result<(), BookRefusal>
     ensures answer { result ≡ save_answer (B.room book.now) (length bytes.old) }
     ensures bytes { bytes.new ≡ (if is_ok result then image (B.room book.now) (B.cases book.now) else bytes.old) }
 {
-    if bytes.len() % BLOCK != 0 || bytes.len() / BLOCK != book.capacity() {
+    if bytes.len() != BLOCK * book.capacity() {
         return Err(BookRefusal::NoBook);
     }
     bytes.fill(0);
+    // A book gives its cases by their places, and the place of a case is that of its block.
     for at in 0..book.count() {
         if let Some(case) = book.case_at(at) {
             write_at(bytes, at, &case);

@@ -1,11 +1,6 @@
-use Rattle.std.proofs.Common.{◌≡◌, true, length}
-use Rattle.image.specs.Image.{fit_length}
-use Rattle.image.proofs.Judging.{Held}
+use Rattle.image.proofs.Judging.{Judged}
 use Rattle.image.proofs.mounting.count_cases.Given as goal
 
--- the blocks so far are cases, and the length is that of an image
-abbrev pub invariant-loop-rest : goal.invariant-loop-rest
-invariant-loop-rest l = Held l.bytes l.rest l.at × (fit_length (length l.bytes) ≡ true)
-
-abbrev pub decreases-loop-rest : goal.decreases-loop-rest
-decreases-loop-rest l = length l.rest
+-- the blocks so far are those of fit cases with names that are apart
+abbrev pub invariant-loop-at : goal.invariant-loop-at
+invariant-loop-at l = Judged l.blocks l.at

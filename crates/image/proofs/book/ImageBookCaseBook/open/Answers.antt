@@ -1,37 +1,16 @@
-use Rattle.std.proofs.Common.{◌≡◌, ◌+◌, ◌/◌, ◌<◌, true, false, ltb, [], ◌∷◌, ◌++◌, length, is_some, sym, refl, ap, ◌∙◌, subst, arith, rules}
+use Rattle.std.proofs.Common.{◌≡◌, ◌+◌, ◌/◌, ◌<◌, false, [], ◌∷◌, ◌++◌, length, is_some, sym, ap, ◌∙◌, subst, arith, rules}
 use Rattle.std.proofs.lemmas.List.{length_push}
-use Rattle.std.proofs.lemmas.Bool.{cond-true, cond-false, lt-ltb, le-ltb}
 use Rattle.table.proofs.Bridges.{any_place}
+use Rattle.cases.specs.declared.case.State.TheVariants.{Open}
 use Rattle.cases.specs.Views.{view}
 use Rattle.cases.proofs.Fits.{fit_case}
-use Rattle.books.specs.Books.{as_opened, has_name, place_of, stands}
+use Rattle.books.specs.Books.{as_opened, place_of}
 use Rattle.coding.specs.CaseFields.{case_block}
 use Rattle.image.specs.Image.{ImageOf, cases_in}
 use Rattle.image.specs.Books.{cases_of, room_of}
-use Rattle.image.proofs.Images.{length-cases_in, with_block}
-use Rattle.image.proofs.Keeping.{fit_state, length_whole, cases_again, opened_image}
+use Rattle.image.proofs.Images.{length_cases_in, cases_again}
+use Rattle.image.proofs.Keeping.{with_block, opened_image}
 use Rattle.image.proofs.book.ImageBookCaseBook.open.Goals as goal
-
-pub returns-then-is_some : goal.returns-then-is_some
-returns-then-is_some c =
-    let n = (view c.args.case).name in
-    let cs = cases_of c.args.self.now in
-    let hit : stands n cs ≡ true = any_place (has_name n) cs ∙ ap is_some (sym c.find.ensures) ∙ sym c.is_some.ensures ∙ c.if-is_some.true in
-    record { sound = c.requires; room = refl; answer = sym (cond-true _ _ _ hit); cases = refl }
-
-pub returns-then-at-capacity : goal.returns-then-at-capacity
-returns-then-at-capacity c =
-    let b = c.args.self.now in
-    let n = (view c.args.case).name in
-    let cs = cases_of b in
-    let missed : stands n cs ≡ false = any_place (has_name n) cs ∙ ap is_some (sym c.find.ensures) ∙ sym c.is_some.ensures ∙ c.if-is_some.false in
-    let full : ltb (length cs) (room_of b) ≡ false = le-ltb (length cs) (room_of b) (omega (arith, length-cases_in b.count b.bytes.now)) in
-    record { sound = c.requires; room = refl; answer = sym (cond-false _ _ _ missed ∙ cond-false _ _ _ full); cases = refl }
-
-pub write_at-requires : goal.write_at-requires
-write_at-requires c =
-    let b = c.args.self.now in
-    omega (arith, length_whole b.bytes.now (cases_of b) c.requires)
 
 pub returns : goal.returns
 returns c =
@@ -39,20 +18,17 @@ returns c =
     let bytes = b.bytes.now in
     let d = as_opened (view c.args.case) in
     let cs = cases_of b in
-    let lost : is_some (place_of d.name cs) ≡ false = ap is_some (sym c.find.ensures) ∙ sym c.is_some.ensures ∙ c.if-is_some.false in
-    let missed : stands d.name cs ≡ false = any_place (has_name d.name) cs ∙ lost in
-    let n = length-cases_in b.count bytes in
+    let n = length_cases_in b.count bytes in
     let room : length cs < room_of b = omega (arith, n) in
+    let lost : is_some (place_of d.name cs) ≡ false = ap is_some (sym c.find.ensures) ∙ sym c.is_some.ensures ∙ c.if-is_some.false in
     let more = c.write_at.new.bytes in
-    let e : more ≡ with_block bytes (length cs) (case_block d) = c.write_at.ensures ∙ ap (λ k. with_block bytes k (case_block d)) (sym n) in
-    let fit = fit_state d.state tt (view c.args.case) (fit_case c.args.case) in
-    let i : ImageOf more (cs ++ d ∷ []) = subst (λ x. ImageOf x (cs ++ d ∷ [])) (sym e) (opened_image bytes cs c.requires d fit room lost) in
-    let m : length (cs ++ d ∷ []) ≡ b.count + 1 = length_push cs d ∙ ap (λ k. k + 1) n in
-    let again : cases_in (b.count + 1) more ≡ cs ++ d ∷ [] = ap (λ k. cases_in k more) (sym m) ∙ cases_again more (cs ++ d ∷ []) i in
     let long : length more ≡ length bytes = search rules in
+    let e : more ≡ with_block bytes (length cs) (case_block d) = c.write_at.ensures ∙ ap (λ k. with_block bytes k (case_block d)) (sym n) in
+    let i = opened_image bytes cs c.requires more long d (fit_case (record c.args.case { state = Open })) room lost e in
+    let again : cases_in (b.count + 1) more ≡ cs ++ d ∷ [] = cases_again more (cs ++ d ∷ []) i (b.count + 1) (omega (arith, length_push cs d)) in
     record {
       sound = subst (ImageOf more) (sym again) i;
       room = ap (λ k. k / 512) long;
-      answer = sym (cond-false _ _ _ missed ∙ cond-true _ _ _ (lt-ltb (length cs) (room_of b) room));
+      answer = grind (arith, any_place, n);
       cases = again;
     }
