@@ -4,6 +4,7 @@ ghost use Rattle.cases.specs.Cases.{same_name};
 ghost use Rattle.cases.specs.Views.{name_view, view};
 ghost use Rattle.cases.specs.Vacant.{vacant};
 
+use octets::readable::Readable;
 use table::Row;
 use values::amount::Amount;
 use values::identifier::Identifier;

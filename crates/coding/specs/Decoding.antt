@@ -3,23 +3,23 @@ use Rattle.std.specs.Prelude.{ℕ, cond, List, Some, None, Option, ◌==◌}
 use Rattle.block.specs.Fields.{FieldValue}
 use Rattle.block.specs.Following.{given}
 use Rattle.values.specs.Identifiers.{read_identifier}
-use Rattle.items.specs.Items.{byte_in, identifier_in, member_code_in, uetr_in, end_to_end_in, amount_in}
+use Rattle.items.specs.Items.{item_in, byte_in, member_code_in, uetr_in, end_to_end_in, amount_in}
 use Rattle.cases.specs.Cases.{NameValue, SubjectValue, request, recall, StateValue, CaseValue}
 use Rattle.cases.specs.Numbers.{original_number, original_of, state_of}
 
 -- a well-formed identifier under the tag t
-unfoldable pub formed_identifier_in : ℕ → List FieldValue → Option (List ℕ)
-formed_identifier_in t fs = given (identifier_in t fs) read_identifier
+abbrev pub formed_identifier_in : ℕ → List FieldValue → Option (List ℕ)
+formed_identifier_in t fs = item_in read_identifier t fs
 
 -- the name
-unfoldable pub name_in : List FieldValue → Option NameValue
+abbrev pub name_in : List FieldValue → Option NameValue
 name_in fs =
     given (formed_identifier_in 2 fs) (λ identifier.
     given (uetr_in fs) (λ uetr.
     Some (record { identifier = identifier; uetr = uetr })))
 
 -- a recall, with its original
-unfoldable pub original_in : List FieldValue → Option SubjectValue
+abbrev pub original_in : List FieldValue → Option SubjectValue
 original_in fs =
     given (byte_in 7 fs) (λ number.
     given (original_of number) (λ kind.
@@ -30,15 +30,15 @@ original_in fs =
 abbrev pub subject_by : List FieldValue → ℕ → Option SubjectValue
 subject_by fs n = cond (n == 13) (Some request) (cond (n == 56) (original_in fs) None)
 
-unfoldable pub subject_in : List FieldValue → Option SubjectValue
+abbrev pub subject_in : List FieldValue → Option SubjectValue
 subject_in fs = given (byte_in 1 fs) (subject_by fs)
 
 -- the state
-unfoldable pub state_in : List FieldValue → Option StateValue
+abbrev pub state_in : List FieldValue → Option StateValue
 state_in fs = given (byte_in 12 fs) (λ number. state_of number (formed_identifier_in 13 fs))
 
 -- the case
-unfoldable pub case_in : List FieldValue → Option CaseValue
+abbrev pub case_in : List FieldValue → Option CaseValue
 case_in fs =
     given (name_in fs) (λ name.
     given (subject_in fs) (λ subject.

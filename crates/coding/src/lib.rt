@@ -10,15 +10,14 @@ ghost use Rattle.cases.specs.Cases.{CaseValue};
 ghost use Rattle.cases.specs.Fitness.{Fit};
 ghost use Rattle.cases.specs.Views.{name_view, subject_view, state_view, view};
 ghost use Rattle.coding.specs.CaseFields.{field, opening_fields, original_fields, state_fields, transaction_fields, case_block};
-ghost use Rattle.coding.specs.Decoding.{formed_identifier_in, name_in, original_in, subject_in, state_in, case_in};
+ghost use Rattle.coding.specs.Decoding.{name_in, original_in, subject_in, state_in, case_in};
 
 use block::BLOCK;
 use block::writer::BlockWriter;
 use cases::case::{Case, CaseName, Original, OriginalKind, State, Subject};
-use items::{amount, byte, end_to_end, identifier, member_code, uetr};
-use octets::same_bytes;
+use items::item;
 use tags::listing::Tag;
-use values::identifier::Identifier;
+use values::kind::Kind;
 
 /// Puts a field that is listed and whose tag rises.
 fn put(writer: &mut BlockWriter<'_>, tag: Tag, value: &[u8])
@@ -105,41 +104,34 @@ pub fn case_block(case: &Case) -> [u8; BLOCK]
     block
 }
 
-/// A well-formed identifier.
-fn formed_identifier(block: &[u8], tag: Tag) -> Option<Identifier>
-    ensures { option_map (λ i. i.bytes) result ≡ formed_identifier_in (number_of tag) (fields_of block.now) }
-{
-    let bytes = identifier(block, tag)?;
-    Identifier::read(&bytes)
-}
-
 /// The name of the case that a block holds.
 fn read_name(block: &[u8]) -> Option<CaseName>
     ensures { option_map name_view result ≡ name_in (fields_of block.now) }
 {
-    let identifier = formed_identifier(block, Tag::Identifier)?;
-    let uetr = uetr(block)?;
-    Some(CaseName { identifier, uetr })
+    Some(CaseName {
+        identifier: item(block, Tag::Identifier)?,
+        uetr: item(block, Tag::Uetr)?,
+    })
 }
 
 /// The original of a recall.
 fn read_original(block: &[u8]) -> Option<Subject>
     ensures { option_map subject_view result ≡ original_in (fields_of block.now) }
 {
-    let number = byte(block, Tag::OriginalKind)?;
-    let kind = OriginalKind::read(number)?;
-    let identifier = formed_identifier(block, Tag::OriginalIdentifier)?;
-    Some(Subject::Recall(Original { kind, identifier }))
+    Some(Subject::Recall(Original {
+        kind: OriginalKind::try_from(item::<u8>(block, Tag::OriginalKind)?).ok()?,
+        identifier: item(block, Tag::OriginalIdentifier)?,
+    }))
 }
 
 /// What the case is about.
 fn read_subject(block: &[u8]) -> Option<Subject>
     ensures { option_map subject_view result ≡ subject_in (fields_of block.now) }
 {
-    match byte(block, Tag::Kind)? {
-        13 => Some(Subject::Request),
-        56 => read_original(block),
-        _ => None,
+    match Kind::try_from(item::<u8>(block, Tag::Kind)?).ok()? {
+        Kind::Request => Some(Subject::Request),
+        Kind::Recall => read_original(block),
+        Kind::Report | Kind::Reply => None,
     }
 }
 
@@ -147,29 +139,24 @@ fn read_subject(block: &[u8]) -> Option<Subject>
 fn read_state(block: &[u8]) -> Option<State>
     ensures { option_map state_view result ≡ state_in (fields_of block.now) }
 {
-    let number = byte(block, Tag::State)?;
-    State::read(number, formed_identifier(block, Tag::ClosingIdentifier))
+    State::read(
+        item(block, Tag::State)?,
+        item(block, Tag::ClosingIdentifier),
+    )
 }
 
 /// The case that a block holds, whatever else it holds.
 pub fn read_case(block: &[u8]) -> Option<Case>
     ensures { option_map view result ≡ case_in (fields_of block.now) }
 {
-    let name = read_name(block)?;
-    let subject = read_subject(block)?;
-    let end_to_end = end_to_end(block)?;
-    let amount = amount(block)?;
-    let opener = member_code(block, Tag::Assigner)?;
-    let assignee = member_code(block, Tag::Assignee)?;
-    let state = read_state(block)?;
     Some(Case {
-        name,
-        subject,
-        end_to_end,
-        amount,
-        opener,
-        assignee,
-        state,
+        name: read_name(block)?,
+        subject: read_subject(block)?,
+        end_to_end: item(block, Tag::EndToEnd)?,
+        amount: item(block, Tag::Amount)?,
+        opener: item(block, Tag::Assigner)?,
+        assignee: item(block, Tag::Assignee)?,
+        state: read_state(block)?,
     })
 }
 
@@ -178,7 +165,7 @@ pub fn exact_case(block: &[u8; BLOCK]) -> Option<Case>
     ensures { MatchOption result ((c : CaseValue) → Fit c → block.now ≢ case_block c) (λ case. block.now ≡ case_block (view case)) }
 {
     let case = read_case(block)?;
-    if same_bytes(block, &case_block(&case)) {
+    if case_block(&case) == *block {
         Some(case)
     } else {
         None

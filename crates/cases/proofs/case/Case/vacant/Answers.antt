@@ -9,4 +9,4 @@ unfolding identifier read_date real_date month_length
 formed = refl
 
 pub unwrap-requires : goal.unwrap-requires
-unwrap-requires c = sym (is_some_mapped (λ i. i.bytes) c.read-2.result) ∙ ap is_some c.read-2.ensures ∙ formed
+unwrap-requires c = sym (is_some_mapped (λ i. i.bytes) c.read-2.result) ∙ ap is_some c.read-2.ensures.value ∙ formed
