@@ -1,7 +1,7 @@
 -- The fields of a fit case give that case again.
 use Rattle.std.proofs.Common.{◌≡◌, ℕ, true, false, eqb, List, [], ◌∷◌, ◌++◌, length, is_some, IfSome, Some, None, Option, sym, refl, ap, ◌∙◌, ⊎_elim}
-use Rattle.std.proofs.lemmas.Bool.{eq-eqb, eqb-true, cases_Bool, true≢false}
-use Rattle.octets.specs.Bytes.{kept}
+use Rattle.std.proofs.lemmas.Bool.{eqb-true, cases_Bool, true≢false}
+use Rattle.octets.specs.Bytes.{kept, read_byte}
 use Rattle.block.specs.Fields.{FieldValue, value_of}
 use Rattle.block.specs.Following.{given}
 use Rattle.block.proofs.Chaining.{given-some}
@@ -10,7 +10,7 @@ use Rattle.values.specs.Texts.{end_to_end, read_end_to_end}
 use Rattle.values.specs.Amounts.{amount, read_amount, amount_bytes}
 use Rattle.values.specs.Identifiers.{identifier, read_identifier}
 use Rattle.values.proofs.Amounts.{reads_back}
-use Rattle.items.specs.Items.{read_byte, read_raw_identifier, byte_in, identifier_in, member_code_in, uetr_in, end_to_end_in, amount_in}
+use Rattle.items.specs.Items.{item_in, byte_in, member_code_in, uetr_in, end_to_end_in, amount_in}
 use Rattle.cases.specs.declared.case.OriginalKind.{OriginalKind}
 use Rattle.cases.specs.declared.case.OriginalKind.TheVariants.{CustomerTransfer, InstitutionTransfer, Request}
 use Rattle.cases.specs.Cases.{SubjectValue, request, recall, StateValue, opened, pending, agreed, declined, withdrawn, CaseValue}
@@ -18,7 +18,6 @@ use Rattle.cases.specs.Numbers.{subject_number, original_number, original_of, st
 use Rattle.cases.specs.Fitness.{FitSubject, Fit}
 use Rattle.coding.specs.CaseFields.{original_fields, closing_fields, state_fields, transaction_fields, case_fields}
 use Rattle.coding.specs.Decoding.{formed_identifier_in, name_in, original_in, subject_by, subject_in, state_in, case_in}
-use Rattle.coding.proofs.Writing.{identifier_length}
 
 -- Fields that are passed over in the search for a tag.
 
@@ -33,37 +32,30 @@ past_closing t (Some id) fs a = rw a
 -- Values that are found, read.
 
 module _ (fs : List FieldValue) where
+  item_found : {X : Type 0} (reading : List ℕ → Option X) (t : ℕ) (bs : List ℕ) (x : X) → value_of t fs ≡ Some bs → reading bs ≡ Some x → item_in reading t fs ≡ Some x
+  item_found reading t bs x e f = ap (λ o. given o reading) e ∙ f
+
   byte_found : (t n : ℕ) → value_of t fs ≡ Some (n ∷ []) → byte_in t fs ≡ Some n
-  unfolding byte_in
-  byte_found t n e = ap (λ o. given o read_byte) e
+  byte_found t n e = item_found read_byte t (n ∷ []) n e refl
 
   identifier_found : (t : ℕ) (id : List ℕ) → value_of t fs ≡ Some id → identifier id ≡ true → formed_identifier_in t fs ≡ Some id
-  unfolding formed_identifier_in identifier_in
-  identifier_found t id e f =
-      ap (λ o. given (given o read_raw_identifier) read_identifier) e
-      ∙ ap (λ b. given (kept b id) read_identifier) (eq-eqb (length id) 20 (identifier_length id f))
-      ∙ ap (λ b. kept b id) f
+  identifier_found t id e f = item_found read_identifier t id id e (ap (λ b. kept b id) f)
 
   closing_found : (o : Option (List ℕ)) → value_of 13 fs ≡ o → IfSome o (λ id. identifier id ≡ true) → formed_identifier_in 13 fs ≡ o
-  unfolding formed_identifier_in identifier_in
-  closing_found None e f = ap (λ o. given (given o read_raw_identifier) read_identifier) e
+  closing_found None e f = ap (λ o. given o read_identifier) e
   closing_found (Some id) e f = identifier_found 13 id e f
 
   code_found : (t : ℕ) (code : List ℕ) → value_of t fs ≡ Some code → member_code code ≡ true → member_code_in t fs ≡ Some code
-  unfolding member_code_in
-  code_found t code e f = ap (λ o. given o read_member_code) e ∙ ap (λ b. kept b code) f
+  code_found t code e f = item_found read_member_code t code code e (ap (λ b. kept b code) f)
 
   uetr_found : (bs : List ℕ) → value_of 16 fs ≡ Some bs → uetr bs ≡ true → uetr_in fs ≡ Some bs
-  unfolding uetr_in
-  uetr_found bs e f = ap (λ o. given o read_uetr) e ∙ ap (λ b. kept b bs) f
+  uetr_found bs e f = item_found read_uetr 16 bs bs e (ap (λ b. kept b bs) f)
 
   text_found : (bs : List ℕ) → value_of 17 fs ≡ Some bs → end_to_end bs ≡ true → end_to_end_in fs ≡ Some bs
-  unfolding end_to_end_in
-  text_found bs e f = ap (λ o. given o read_end_to_end) e ∙ ap (λ b. kept b bs) f
+  text_found bs e f = item_found read_end_to_end 17 bs bs e (ap (λ b. kept b bs) f)
 
   amount_found : (k : ℕ) → value_of 18 fs ≡ Some (amount_bytes k) → amount k ≡ true → amount_in fs ≡ Some k
-  unfolding amount_in
-  amount_found k e f = ap (λ o. given o read_amount) e ∙ reads_back k f
+  amount_found k e f = item_found read_amount 18 (amount_bytes k) k e (reads_back k f)
 
 -- Numbers that are known.
 
@@ -105,7 +97,6 @@ module _ (c : CaseValue) (f : Fit c) where
   identifier_value = refl
 
   name_again : name_in (case_fields c) ≡ Some c.name
-  unfolding name_in
   name_again =
       given-some _ _ _ (sym (identifier_found (case_fields c) 2 c.name.identifier identifier_value f.identifier))
       ∙ given-some _ _ _ (sym (uetr_found (case_fields c) c.name.uetr uetr_value f.uetr))
@@ -123,7 +114,6 @@ module _ (c : CaseValue) (f : Fit c) where
       last (Some id) = refl
 
   state_found : state_in (case_fields c) ≡ Some c.state
-  unfolding state_in
   state_found =
       given-some _ _ _ (sym (byte_found (case_fields c) 12 (state_number c.state) state_value))
       ∙ ap (state_of (state_number c.state)) (closing_found (case_fields c) (closing_of c.state) closing_value f.closing)
@@ -141,7 +131,6 @@ module _ (c : CaseValue) (f : Fit c) where
       (ap (λ s. value_of 7 (original_fields s ++ rest)) e, ap (λ s. value_of 8 (original_fields s ++ rest)) e)
 
   original_found : (kind : ℕ) (id : List ℕ) → c.subject ≡ recall kind id → FitSubject (recall kind id) → original_in (case_fields c) ≡ Some (recall kind id)
-  unfolding original_in
   original_found kind id e g =
       let v = original_values kind id e in
       let k = kind_again kind g.0 in
@@ -151,7 +140,6 @@ module _ (c : CaseValue) (f : Fit c) where
       ∙ ap (λ n. Some (recall n id)) k.2
 
   subject_found : subject_in (case_fields c) ≡ Some c.subject
-  unfolding subject_in
   subject_found = given-some _ _ _ (sym (byte_found (case_fields c) 1 (subject_number c.subject) subject_value)) ∙ go c.subject refl f.subject
     where
       go : (s : SubjectValue) → c.subject ≡ s → FitSubject s → subject_by (case_fields c) (subject_number s) ≡ Some s
@@ -164,7 +152,6 @@ module _ (c : CaseValue) (f : Fit c) where
 
   -- the fields of a fit case give the case
   pub case_again : case_in (case_fields c) ≡ Some c
-  unfolding case_in
   case_again =
       let fs = case_fields c in
       given-some _ _ _ (sym name_again)

@@ -55,7 +55,7 @@ unfolding blank
 length-blank = length-replicate {A = ℕ} 512 0
 
 blank_case : case_in (fields_of blank) ≡ None
-unfolding blank case_in name_in formed_identifier_in identifier_in
+unfolding blank
 blank_case = ap case_in (fields_of-end (replicate 512 0) refl)
 
 pub joined-blank : (k : ℕ) → joined (replicate k blank) ≡ replicate (512 * k) 0
