@@ -1,6 +1,5 @@
 -- Cases counted by their states.
-use Rattle.std.proofs.Common.{◌≡◌, ℕ, ◌+◌, ◌<◌, ◌≤◌, Bool, true, false, cond, eqb, List, [], ◌∷◌, ◌++◌, length, take, ap, ◌∙◌, arith}
-use Rattle.std.proofs.lemmas.List.{length-take}
+use Rattle.std.proofs.Common.{◌≡◌, ℕ, ◌+◌, ◌<◌, ◌≤◌, Bool, true, false, cond, eqb, List, [], ◌∷◌, ◌++◌, length, ap, ◌∙◌, arith}
 use Rattle.cases.specs.Cases.{CaseValue}
 use Rattle.cases.specs.Numbers.{state_number}
 use Rattle.books.specs.Totals.{one_in, count_in, totals_of, counted, Below}
@@ -22,10 +21,8 @@ module _ (n : ℕ) where
 pub totals-push : (cs : List CaseValue) (c : CaseValue) → counted c.state (totals_of cs) ≡ totals_of (cs ++ c ∷ [])
 totals-push cs c = simp count_in-push
 
--- as long as there are fewer than n cases, each of the totals is below n
-pub totals_below : (cs : List CaseValue) (i n : ℕ) → i < n → Below n (totals_of (take i cs))
-totals_below cs i n h =
-    let xs = take i cs in
-    let l = length-take i cs in
-    let at : (k : ℕ) → count_in k xs < n = λ k. omega (arith, count_in-length k xs) in
+-- where there are fewer than n cases, each of the totals is below n
+pub totals_below : (cs : List CaseValue) (n : ℕ) → length cs < n → Below n (totals_of cs)
+totals_below cs n h =
+    let at : (k : ℕ) → count_in k cs < n = λ k. omega (arith, count_in-length k cs) in
     (at 1, at 2, at 3, at 4, at 5)

@@ -1,2 +1,3 @@
 pub mod Naming
 pub mod Counting
+pub mod Steps

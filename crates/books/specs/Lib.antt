@@ -1,3 +1,4 @@
 pub mod Books
+pub mod Rest
 pub mod Refusals
 pub mod Totals

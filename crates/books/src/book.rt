@@ -61,17 +61,16 @@ pub trait CaseBook {
         ensures cases { cases self.new ≡ changed at (state_view state) (cases self.old) };
 
     /// The case of this name.
+    #[tactic(auto, using(table::proofs::Bridges::by_place))]
     fn look(&self, name: &CaseName) -> Option<Case>
         requires { sound self.now }
         ensures { option_map view result ≡ case_named (name_view name.now) (cases self.now) }
     {
-        match self.find(name) {
-            Some(at) => self.case_at(at),
-            None => None,
-        }
+        self.case_at(self.find(name)?)
     }
 
     /// Sets the state of the case of this name. Where there is none, nothing changes.
+    #[tactic(auto, using(table::proofs::Bridges::by_place))]
     fn set_state(&mut self, name: &CaseName, state: State)
         requires { sound self.old }
         ensures sound { sound self.new }

@@ -2,17 +2,17 @@
 ghost use Rattle.std.specs.Prelude.{◌≡◌};
 ghost use Rattle.books.specs.Refusals.{refusal_number};
 
-/// Why a book is not made, or does not do what it is asked.
-#[derive(Clone, Copy)]
+/// Why a book is not made, or does not do what it is asked, by the number under which it is reported.
+#[derive(Clone, Copy, Debug, PartialEq, Eq)]
 pub enum BookRefusal {
     /// The memory is not that of a book.
-    NoBook,
+    NoBook = 50,
     /// No case stands at the place.
-    NoPlace,
+    NoPlace = 51,
     /// A case of that name stands.
-    Stands,
+    Stands = 52,
     /// The book has as many cases as it has room for.
-    Full,
+    Full = 53,
 }
 
 impl BookRefusal {
@@ -20,11 +20,6 @@ impl BookRefusal {
     pub fn number(self) -> u8
         ensures { result ≡ refusal_number self }
     {
-        match self {
-            BookRefusal::NoBook => 50,
-            BookRefusal::NoPlace => 51,
-            BookRefusal::Stands => 52,
-            BookRefusal::Full => 53,
-        }
+        self as u8
     }
 }

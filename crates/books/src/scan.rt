@@ -5,9 +5,11 @@ ghost use Rattle.cases.specs.Cases.{CaseValue};
 ghost use Rattle.cases.specs.Views.{view};
 
 use crate::book::CaseBook;
+use crate::iter::Cases;
 use cases::case::Case;
 
-/// A condition that a case meets or not.
+/// A condition that a case meets or not. It is a trait and no closure, since the promise of `any_case` is an equation in what it
+/// names `met`, and asks nothing of how it is called; who has a closure asks `Cases::of(book).any(..)`.
 pub trait CaseCondition {
     ghost met: { Self → CaseValue → Bool };
 
@@ -21,12 +23,5 @@ pub fn any_case<B: CaseBook, C: CaseCondition>(book: &B, condition: &C) -> bool
     requires { B.sound book.now }
     ensures { result ≡ any (C.met condition.now) (B.cases book.now) }
 {
-    for at in 0..book.count() {
-        if let Some(case) = book.case_at(at) {
-            if condition.is_met(&case) {
-                return true;
-            }
-        }
-    }
-    false
+    Cases::of(book).any(|case| condition.is_met(&case))
 }

@@ -4,10 +4,11 @@ ghost use Rattle.cases.specs.Views.{state_view};
 ghost use Rattle.books.specs.Totals.{counted, totals_of, Below};
 
 use crate::book::CaseBook;
+use crate::iter::Cases;
 use cases::case::State;
 
 /// The number of cases in each state.
-#[derive(Clone, Copy)]
+#[derive(Clone, Copy, Debug, Default, PartialEq, Eq)]
 pub struct Totals {
     pub open: usize,
     pub pending: usize,
@@ -17,32 +18,17 @@ pub struct Totals {
 }
 
 impl Totals {
-    /// With one case more, which is in this state.
-    fn counting(self, state: &State) -> Totals
-        requires { Below 4096 self }
-        ensures { result ≡ counted (state_view state.now) self }
+    /// Counts one case more, which is in this state.
+    fn count(&mut self, state: &State)
+        requires { Below 4096 self.old }
+        ensures { self.new ≡ counted (state_view state.now) self.old }
     {
-        match *state {
-            State::Open => Totals {
-                open: self.open + 1,
-                ..self
-            },
-            State::Pending => Totals {
-                pending: self.pending + 1,
-                ..self
-            },
-            State::Agreed(_) => Totals {
-                agreed: self.agreed + 1,
-                ..self
-            },
-            State::Declined(_) => Totals {
-                declined: self.declined + 1,
-                ..self
-            },
-            State::Withdrawn(_) => Totals {
-                withdrawn: self.withdrawn + 1,
-                ..self
-            },
+        match state {
+            State::Open => self.open += 1,
+            State::Pending => self.pending += 1,
+            State::Agreed(_) => self.agreed += 1,
+            State::Declined(_) => self.declined += 1,
+            State::Withdrawn(_) => self.withdrawn += 1,
         }
     }
 }
@@ -52,17 +38,9 @@ pub fn totals_of<B: CaseBook>(book: &B) -> Totals
     requires { B.sound book.now }
     ensures { result ≡ totals_of (B.cases book.now) }
 {
-    let mut sums = Totals {
-        open: 0,
-        pending: 0,
-        agreed: 0,
-        declined: 0,
-        withdrawn: 0,
-    };
-    for at in 0..book.count() {
-        if let Some(case) = book.case_at(at) {
-            sums = sums.counting(&case.state);
-        }
+    let mut totals = Totals::default();
+    for case in Cases::of(book) {
+        totals.count(&case.state);
     }
-    sums
+    totals
 }

@@ -5,7 +5,7 @@ ghost use Rattle.std.specs.Prelude.{◌≡◌, ◌<◌, true, [], ◌∷◌, ◌
 ghost use Rattle.std.specs.Option.{option_map};
 ghost use Rattle.tags.specs.Tags.{number_of, listed};
 ghost use Rattle.block.specs.Fields.{last_tag, fields_of};
-ghost use Rattle.block.specs.Writer.{Sound, written};
+ghost use Rattle.block.specs.Writer.{written};
 ghost use Rattle.cases.specs.Cases.{CaseValue};
 ghost use Rattle.cases.specs.Fitness.{Fit};
 ghost use Rattle.cases.specs.Views.{name_view, subject_view, state_view, view};
@@ -21,10 +21,8 @@ use values::kind::Kind;
 
 /// Puts a field that is listed and whose tag rises.
 fn put(writer: &mut BlockWriter<'_>, tag: Tag, value: &[u8])
-    requires sound { Sound writer.old }
     requires rises { last_tag 0 (written writer.old) < number_of tag }
     requires listed { listed (number_of tag) (length value.now) ≡ true }
-    ensures sound { Sound writer.new }
     ensures fields { written writer.new ≡ written writer.old ++ field (number_of tag) value.now ∷ [] }
     ensures last { last_tag 0 (written writer.new) ≡ number_of tag }
     ensures named { writer.new.block.ghost_name ≡ writer.old.block.ghost_name }
@@ -34,9 +32,7 @@ fn put(writer: &mut BlockWriter<'_>, tag: Tag, value: &[u8])
 
 /// Puts what a case is opened with: its kind, its identifier and its parties.
 fn put_opening(writer: &mut BlockWriter<'_>, case: &Case)
-    requires sound { Sound writer.old }
     requires last { last_tag 0 (written writer.old) < 1 }
-    ensures sound { Sound writer.new }
     ensures fields { written writer.new ≡ written writer.old ++ opening_fields (view case.now) }
     ensures last { last_tag 0 (written writer.new) < 7 }
     ensures named { writer.new.block.ghost_name ≡ writer.old.block.ghost_name }
@@ -49,9 +45,7 @@ fn put_opening(writer: &mut BlockWriter<'_>, case: &Case)
 
 /// Puts the original, which a recall has.
 fn put_original(writer: &mut BlockWriter<'_>, subject: &Subject)
-    requires sound { Sound writer.old }
     requires last { last_tag 0 (written writer.old) < 7 }
-    ensures sound { Sound writer.new }
     ensures fields { written writer.new ≡ written writer.old ++ original_fields (subject_view subject.now) }
     ensures last { last_tag 0 (written writer.new) < 12 }
     ensures named { writer.new.block.ghost_name ≡ writer.old.block.ghost_name }
@@ -64,9 +58,7 @@ fn put_original(writer: &mut BlockWriter<'_>, subject: &Subject)
 
 /// Puts the state, and the closing identifier, which a closed case has.
 fn put_state(writer: &mut BlockWriter<'_>, state: &State)
-    requires sound { Sound writer.old }
     requires last { last_tag 0 (written writer.old) < 12 }
-    ensures sound { Sound writer.new }
     ensures fields { written writer.new ≡ written writer.old ++ state_fields (state_view state.now) }
     ensures last { last_tag 0 (written writer.new) < 16 }
     ensures named { writer.new.block.ghost_name ≡ writer.old.block.ghost_name }
@@ -79,9 +71,7 @@ fn put_state(writer: &mut BlockWriter<'_>, state: &State)
 
 /// Puts what the transaction of the case says: its reference, its end-to-end identification and its amount.
 fn put_transaction(writer: &mut BlockWriter<'_>, case: &Case)
-    requires sound { Sound writer.old }
     requires last { last_tag 0 (written writer.old) < 16 }
-    ensures sound { Sound writer.new }
     ensures fields { written writer.new ≡ written writer.old ++ transaction_fields (view case.now) }
     ensures named { writer.new.block.ghost_name ≡ writer.old.block.ghost_name }
 {

@@ -96,18 +96,14 @@ any_place test (x ∷ xs) = go (test x) (any_place test xs)
     go true e = refl
     go false e = e ∙ sym (is_some_suc (place test xs))
 
--- what is asked by a test, in terms of the place
-pub ruleset by_place = (first-place, any_place)
+-- what is asked or done by a test, in terms of the place
+pub ruleset by_place = (first-place, any_place, alter-place)
 
--- A list under two tests that agree, a list that is longer, or a list seen through a view.
+-- A list under two tests that agree, or a list seen through a view.
 
 pub place_same : {X : Type 0} (f g : X → Bool) (xs : List X) → AllByRecursion (λ x. f x ≡ g x) xs → place f xs ≡ place g xs
 place_same f g [] a = refl
 place_same f g (x ∷ xs) a = ap (λ b. cond b (Some 0) (option_map suc (place f xs))) a.0 ∙ ap (λ p. cond (g x) (Some 0) (option_map suc p)) (place_same f g xs a.1)
-
--- one more element of a list that is gone through by place
-pub any-more : {X : Type 0} (test : X → Bool) (xs : List X) (i : ℕ) (x : X) → slice_get xs i ≡ Some x → any test (drop i xs) ≡ (test x || any test (drop (i + 1) xs))
-any-more test xs i x e = ap (any test) (drop_nth xs i x e)
 
 module _ {X Y : Type 0} (view : X → Y) where
   pub place_map : (test : Y → Bool) (xs : List X) → place test (map view xs) ≡ place (λ x. test (view x)) xs

@@ -1,5 +1,7 @@
 use Rattle.std.proofs.Common.{◌≡◌, ℕ, List, Some, None, Option, sym, ap, ◌∙◌, subst, arith, MatchOption}
 use Rattle.std.proofs.lemmas.Bool.{true≢false}
+use Rattle.std.proofs.lemmas.Bool.Decides.{Decides-eqb}
+use Rattle.std.proofs.lemmas.Slice.Eq.{slice_eq-Decides}
 use Rattle.block.specs.Fields.{fields_of}
 use Rattle.cases.specs.Cases.{CaseValue}
 use Rattle.cases.specs.Views.{view}
@@ -21,10 +23,11 @@ returns-in_err-case c =
     subst P (sym c.from_residual.ensures)
     (λ k f e. let q : None ≡ Some k = c.in_err-case.ensures ∙ again b k f e in let z : ◌≡◌ {A = ℕ} 0 1 = cc in omega arith)
 
-pub returns-else-same_bytes : goal.returns-else-same_bytes
-returns-else-same_bytes c k f e =
+pub returns-else-eq : goal.returns-else-eq
+returns-else-eq c k f e =
     let b = c.args.block.now in
     let q : Some (view c.in_ok-case.case) ≡ Some k = c.in_ok-case.ensures ∙ again b k f e in
     let same : view c.in_ok-case.case ≡ k = cc in
-    let eq : b ≡ c.case_block.result = e ∙ ap case_block (sym same) ∙ sym c.case_block.ensures in
-    true≢false (sym (c.same_bytes.ensures.equal.1 eq) ∙ c.if-same_bytes.false)
+    let eq : c.case_block.result ≡ b = c.case_block.ensures ∙ ap case_block same ∙ sym e in
+    let d = slice_eq-Decides Decides-eqb _ _ _ c.eq.ensures in
+    true≢false (sym (d.1 eq) ∙ c.if-eq.false)

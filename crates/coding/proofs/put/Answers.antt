@@ -16,7 +16,6 @@ returns c =
     let done : c.put.result ≡ Ok tt = c.put.ensures.answer ∙ ap (λ k. put_answer (last_tag 0 w) k (length v)) c.number.ensures ∙ listed_put (last_tag 0 w) t (length v) c.requires.listed c.requires.rises in
     let fields : written c.put.new.self ≡ w ++ field t v ∷ [] = MatchResult-at_ok _ _ tt done c.put.ensures.fields ∙ ap (λ k. w ++ field k v ∷ []) c.number.ensures in
     record {
-      sound = c.put.ensures.sound;
       fields = fields;
       last = ap (last_tag 0) fields ∙ last_tag-push t v 0 w;
       named = c.put.ensures.named;

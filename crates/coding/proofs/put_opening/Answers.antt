@@ -8,16 +8,16 @@ use Rattle.coding.proofs.Putting.{onto}
 use Rattle.coding.proofs.put_opening.Goals as goal
 
 pub put-requires : goal.put-requires
-put-requires c = record { sound = c.requires.sound; rises = c.requires.last; listed = listed_byte 1 refl }
+put-requires c = record { rises = c.requires.last; listed = listed_byte 1 refl }
 
 pub put-requires-2 : goal.put-requires-2
-put-requires-2 c = record { sound = c.put.ensures.sound; rises = omega arith; listed = listed_identifier c.args.case.now.name.identifier.bytes 2 c.args.case.now.name.identifier.formed refl }
+put-requires-2 c = record { rises = omega arith; listed = listed_identifier c.args.case.now.name.identifier.bytes 2 c.args.case.now.name.identifier.formed refl }
 
 pub put-requires-3 : goal.put-requires-3
-put-requires-3 c = record { sound = c.put-2.ensures.sound; rises = omega arith; listed = listed_code c.args.case.now.opener.bytes 4 c.args.case.now.opener.formed refl }
+put-requires-3 c = record { rises = omega arith; listed = listed_code c.args.case.now.opener.bytes 4 c.args.case.now.opener.formed refl }
 
 pub put-requires-4 : goal.put-requires-4
-put-requires-4 c = record { sound = c.put-3.ensures.sound; rises = omega arith; listed = listed_code c.args.case.now.assignee.bytes 5 c.args.case.now.assignee.formed refl }
+put-requires-4 c = record { rises = omega arith; listed = listed_code c.args.case.now.assignee.bytes 5 c.args.case.now.assignee.formed refl }
 
 pub returns : goal.returns
 returns c =
@@ -31,7 +31,6 @@ returns c =
     let e2 = onto w (f1 ∷ []) f2 (written c.put.new.writer) (written c.put-2.new.writer) e1 c.put-2.ensures.fields in
     let e3 = onto w (f1 ∷ f2 ∷ []) f4 (written c.put-2.new.writer) (written c.put-3.new.writer) e2 c.put-3.ensures.fields in
     record {
-      sound = c.put-4.ensures.sound;
       fields = onto w (f1 ∷ f2 ∷ f4 ∷ []) f5 (written c.put-3.new.writer) (written c.put-4.new.writer) e3 c.put-4.ensures.fields;
       last = omega arith;
       named = c.put-4.ensures.named ∙ c.put-3.ensures.named ∙ c.put-2.ensures.named ∙ c.put.ensures.named;

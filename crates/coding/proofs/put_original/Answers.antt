@@ -8,10 +8,10 @@ use Rattle.coding.proofs.Putting.{onto}
 use Rattle.coding.proofs.put_original.Goals as goal
 
 pub put-requires : goal.put-requires
-put-requires c = record { sound = c.requires.sound; rises = c.requires.last; listed = listed_byte 7 refl }
+put-requires c = record { rises = c.requires.last; listed = listed_byte 7 refl }
 
 pub put-requires-in-Recall : goal.put-requires-in-Recall
-put-requires-in-Recall c = record { sound = c.put.ensures.sound; rises = omega arith; listed = listed_identifier c.in-Recall.original.identifier.bytes 8 c.in-Recall.original.identifier.formed refl }
+put-requires-in-Recall c = record { rises = omega arith; listed = listed_identifier c.in-Recall.original.identifier.bytes 8 c.in-Recall.original.identifier.formed refl }
 
 pub returns-in-Recall : goal.returns-in-Recall
 returns-in-Recall c =
@@ -21,7 +21,6 @@ returns-in-Recall c =
     let f8 = field 8 o.identifier.bytes in
     let e7 : written c.put.new.writer ≡ w ++ f7 ∷ [] = c.put.ensures.fields ∙ ap (λ n. w ++ field 7 (n ∷ []) ∷ []) c.number.ensures in
     record {
-      sound = c.put-in-Recall.ensures.sound;
       fields = onto w (f7 ∷ []) f8 (written c.put.new.writer) (written c.put-in-Recall.new.writer) e7 c.put-in-Recall.ensures.fields ∙ ap (λ s. w ++ original_fields (subject_view s)) (sym c.in-Recall.is);
       last = omega arith;
       named = c.put-in-Recall.ensures.named ∙ c.put.ensures.named;

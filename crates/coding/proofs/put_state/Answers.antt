@@ -8,10 +8,10 @@ use Rattle.coding.proofs.Putting.{onto}
 use Rattle.coding.proofs.put_state.Goals as goal
 
 pub put-requires : goal.put-requires
-put-requires c = record { sound = c.requires.sound; rises = c.requires.last; listed = listed_byte 12 refl }
+put-requires c = record { rises = c.requires.last; listed = listed_byte 12 refl }
 
 pub put-requires-in-Some : goal.put-requires-in-Some
-put-requires-in-Some c = record { sound = c.put.ensures.sound; rises = omega arith; listed = listed_identifier c.in-Some.closing.bytes 13 c.in-Some.closing.formed refl }
+put-requires-in-Some c = record { rises = omega arith; listed = listed_identifier c.in-Some.closing.bytes 13 c.in-Some.closing.formed refl }
 
 pub returns-in-Some : goal.returns-in-Some
 returns-in-Some c =
@@ -20,7 +20,6 @@ returns-in-Some c =
     let f12 = field 12 (n ∷ []) in
     let e12 : written c.put.new.writer ≡ w ++ f12 ∷ [] = c.put.ensures.fields ∙ ap (λ k. w ++ field 12 (k ∷ []) ∷ []) c.number.ensures in
     record {
-      sound = c.put-in-Some.ensures.sound;
       fields = onto w (f12 ∷ []) (field 13 c.in-Some.closing.bytes) (written c.put.new.writer) (written c.put-in-Some.new.writer) e12 c.put-in-Some.ensures.fields ∙ ap (λ o. w ++ f12 ∷ closing_fields o) c.in-Some.ensures;
       last = omega arith;
       named = c.put-in-Some.ensures.named ∙ c.put.ensures.named;

@@ -9,15 +9,15 @@ use Rattle.coding.proofs.Putting.{onto}
 use Rattle.coding.proofs.put_transaction.Goals as goal
 
 pub put-requires : goal.put-requires
-put-requires c = record { sound = c.requires.sound; rises = c.requires.last; listed = listed_uetr c.args.case.now.name.uetr.bytes c.args.case.now.name.uetr.formed }
+put-requires c = record { rises = c.requires.last; listed = listed_uetr c.args.case.now.name.uetr.bytes c.args.case.now.name.uetr.formed }
 
 pub put-requires-2 : goal.put-requires-2
 put-requires-2 c =
     let text = c.args.case.now.end_to_end in
-    record { sound = c.put.ensures.sound; rises = omega arith; listed = ap (λ bs. listed 17 (length bs)) c.bytes.ensures.value ∙ listed_text (characters text) text.formed.1 }
+    record { rises = omega arith; listed = ap (λ bs. listed 17 (length bs)) c.bytes.ensures.value ∙ listed_text (characters text) text.formed.1 }
 
 pub put-requires-3 : goal.put-requires-3
-put-requires-3 c = record { sound = c.put-2.ensures.sound; rises = omega arith; listed = ap (λ bs. listed 18 (length bs)) c.bytes-2.ensures.value ∙ listed_amount c.args.case.now.amount.kopecks }
+put-requires-3 c = record { rises = omega arith; listed = ap (λ bs. listed 18 (length bs)) c.bytes-2.ensures.value ∙ listed_amount c.args.case.now.amount.kopecks }
 
 pub returns : goal.returns
 returns c =
@@ -32,7 +32,6 @@ returns c =
     let e17 : w2 ≡ w1 ++ f17 ∷ [] = c.put-2.ensures.fields ∙ ap (λ v. w1 ++ field 17 v ∷ []) c.bytes.ensures.value in
     let e18 : w3 ≡ w2 ++ f18 ∷ [] = c.put-3.ensures.fields ∙ ap (λ v. w2 ++ field 18 v ∷ []) c.bytes-2.ensures.value in
     record {
-      sound = c.put-3.ensures.sound;
       fields = onto w (f16 ∷ f17 ∷ []) f18 w2 w3 (onto w (f16 ∷ []) f17 w1 w2 c.put.ensures.fields e17) e18;
       named = c.put-3.ensures.named ∙ c.put-2.ensures.named ∙ c.put.ensures.named;
     }

@@ -1,42 +1,31 @@
-use Rattle.std.proofs.Common.{◌≡◌, ◌<◌, ◌≤◌, leb, length, take, Some, sym, ap, ◌∙◌, subst, arith}
-use Rattle.std.specs.List.{slice_get}
-use Rattle.std.specs.Option.{option_map}
-use Rattle.std.proofs.lemmas.List.{take_all}
-use Rattle.std.proofs.lemmas.Bool.{and_parts, leb-true}
-use Rattle.table.proofs.Bridges.{take_nth, nth_beyond}
+use Rattle.std.proofs.Common.{map, rules, sym, ap, ◌∙◌, subst, arith}
+use Rattle.std.proofs.lemmas.List.{length-map, map_push}
+use Rattle.std.proofs.lemmas.Iterator.Consumers.{YieldsList-from_first, YieldsList-turn}
 use Rattle.cases.specs.Views.{view, state_view}
-use Rattle.books.specs.Totals.{totals_of, counted, Below}
+use Rattle.books.specs.Rest.{rest_of}
+use Rattle.books.specs.Totals.{counted, totals_of, Below}
 use Rattle.books.proofs.Counting.{totals-push, totals_below}
+use Rattle.books.proofs.Steps.{few}
 use Rattle.books.proofs.totals.totals_of.Goals as goal
-use Rattle.books.proofs.totals.totals_of.Goals.{in-Some, in_default}
 
-pub counting-sums-requires : goal.counting-sums-requires
-counting-sums-requires g c =
+pub count-requires : goal.count-requires
+count-requires g c =
     let book = c.args.book.now in
     let cs = g.B.CaseBook.cases book in
-    let keeps = g.B.CaseBook.keeps in
-    let room = g.B.CaseBook.room book in
-    let most : room ≤ 4096 = leb-true room 4096 (and_parts (leb 1 room) (leb room 4096) (keeps.fit book c.requires)).1 in
-    let within : length cs ≤ room = keeps.within book c.requires in
-    let few : c.loop-at.at < 4096 = omega arith in
-    subst (Below 4096) (sym c.loop-at.invariant) (totals_below cs c.loop-at.at 4096 few)
+    let so_far = c.loop-case.yielded in
+    let n = few g.B.CaseBook.cases g.B.CaseBook.room g.B.CaseBook.sound g.B.CaseBook.keeps book c.requires in
+    let all = YieldsList-from_first view (rest_of g.B.CaseBook.cases) cs (ap (rest_of g.B.CaseBook.cases) c.into_iter-case-iterator.ensures.into_iter_gives ∙ c.of-case-items.ensures.cases) in
+    let turn = YieldsList-turn all so_far c.loop-case.case-iterator c.loop-case.yielded_by c.next.result c.next.new.self c.in-Some.case c.in-Some.is c.next.ensures.steps in
+    subst (Below 4096) (sym c.loop-case.invariant.counted) (totals_below (map view so_far) 4096 (simp length-map (omega (arith, turn.0))))
 
-pub loop-at-preserved : goal.loop-at-preserved
-loop-at-preserved g c =
-    let cs = g.B.CaseBook.cases c.args.book.now in
-    elim c.match-case_at.branch [
-      | in-Some w ↦
-          let here : slice_get cs c.loop-at.at ≡ Some (view w.in-Some.case) = sym c.case_at.ensures ∙ ap (option_map view) w.in-Some.is in
-          w.sums-is ∙ w.counting-sums.ensures
-          ∙ ap (counted (state_view w.in-Some.case.state)) c.loop-at.invariant
-          ∙ totals-push (take c.loop-at.at cs) (view w.in-Some.case)
-          ∙ ap totals_of (sym (take_nth cs c.loop-at.at (view w.in-Some.case) here))
-      | in_default w ↦
-          let past : length cs ≤ c.loop-at.at = nth_beyond cs c.loop-at.at (sym c.case_at.ensures ∙ ap (option_map view) w.in_default.is) in
-          absurd (omega arith)
-    ]
-
-pub returns : goal.returns
-returns g c =
-    let cs = g.B.CaseBook.cases c.args.book.now in
-    c.loop-at.invariant ∙ ap totals_of (take_all c.loop-at.at cs (omega arith))
+pub loop-case-preserved : goal.loop-case-preserved
+loop-case-preserved g c =
+    record {
+      can = search rules;
+      finite = tt;
+      counted =
+          c.count.ensures
+          ∙ ap (counted (state_view c.in-Some.case.state)) c.loop-case.invariant.counted
+          ∙ totals-push (map view c.loop-case.yielded) (view c.in-Some.case)
+          ∙ ap totals_of (sym (map_push view c.loop-case.yielded c.in-Some.case));
+    }
