@@ -9,6 +9,8 @@ mod blocks;
 #[cfg(test)]
 mod book_trials;
 #[cfg(test)]
+mod making;
+#[cfg(test)]
 mod message_trials;
 #[cfg(test)]
 mod value_trials;
