@@ -1,8 +1,9 @@
 //! What can go wrong with a line of a script, and what is then expected of it.
 ghost use Rattle.std.specs.Prelude.{◌≡◌};
+ghost use Rattle.clearing.specs.declared.faults.LineFault.TheVariants.{Wanted};
 ghost use Rattle.clearing.specs.declared.faults.ScriptError.TheVariants.{Memory, Line};
 
-use crate::book_words::Wanted;
+use crate::commands::Wanted;
 use crate::names::Name;
 use std::alloc::{AllocError, AllocFailed};
 use std::fmt;
@@ -18,14 +19,10 @@ pub(crate) enum LineFault {
     UnknownCommand,
     UnclosedQuote,
     UnknownEscape,
-    NotAField,
     UnknownField,
     NotANumber(Name, u64),
-    NotHex,
     NotABlockEnd,
     Refused(Name, FieldRefusal),
-    TakesNothing,
-    TakesThreeNumbers,
     NoSuchByte,
     /// Something else was expected in the place of some words.
     Wanted(Wanted),
@@ -33,10 +30,6 @@ pub(crate) enum LineFault {
     CannotRead,
     CannotWrite,
 }
-
-/// There is no memory for what is to be printed.
-#[derive(Clone, Copy)]
-pub(crate) struct OutOfMemory;
 
 /// Why a line was not carried out.
 #[derive(Clone, Copy)]
@@ -61,26 +54,6 @@ impl<T: Drop> From<AllocFailed<T>> for ScriptError {
     }
 }
 
-impl From<OutOfMemory> for ScriptError {
-    ghost from_gives = { λ _ r. r ≡ Memory };
-
-    fn from(_e: OutOfMemory) -> ScriptError {
-        ScriptError::Memory
-    }
-}
-
-impl From<AllocError> for OutOfMemory {
-    fn from(_e: AllocError) -> OutOfMemory {
-        OutOfMemory
-    }
-}
-
-impl From<fmt::Error> for OutOfMemory {
-    fn from(_e: fmt::Error) -> OutOfMemory {
-        OutOfMemory
-    }
-}
-
 impl From<LineFault> for ScriptError {
     ghost from_gives = { λ e r. r ≡ Line e };
 
@@ -90,6 +63,8 @@ impl From<LineFault> for ScriptError {
 }
 
 impl From<Wanted> for ScriptError {
+    ghost from_gives = { λ e r. r ≡ Line (Wanted e) };
+
     fn from(wanted: Wanted) -> ScriptError {
         ScriptError::Line(LineFault::Wanted(wanted))
     }
@@ -107,28 +82,18 @@ impl fmt::Display for LineFault {
             LineFault::UnknownEscape => f.write_str(
                 "unknown escape: expected \\\", \\\\ or \\x and two hex digits",
             ),
-            LineFault::NotAField => f.write_str("expected a field, as NAME=VALUE"),
             LineFault::UnknownField => f.write_str(UNKNOWN_FIELD),
             LineFault::NotANumber(name, most) => {
-                let name = name.text;
-                write!(f, "{name} takes a number from 0 to {most}")
+                write!(f, "{} takes a number from 0 to {most}", name.text)
             }
-            LineFault::NotHex => f.write_str("expected pairs of hex digits"),
             LineFault::NotABlockEnd => f.write_str(
                 "two dots stand for zeros up to a block's check: expected at most 510 bytes before them",
             ),
             LineFault::Refused(name, refusal) => refused(f, name, refusal),
-            LineFault::TakesNothing => f.write_str("expected nothing behind this command"),
-            LineFault::TakesThreeNumbers => f.write_str(
-                "expected three numbers: spoil BLOCK BYTE VALUE",
-            ),
             LineFault::NoSuchByte => f.write_str(
                 "no such byte: expected a block of the message, a byte from 0 to 511 and a value from 0 to 255",
             ),
-            LineFault::Wanted(wanted) => {
-                let what = wanted.text();
-                write!(f, "expected {what}")
-            }
+            LineFault::Wanted(wanted) => write!(f, "expected {wanted}"),
             LineFault::NoBook => f.write_str(
                 "there is no book: expected new rows N, new image N or mount FILE before this line",
             ),

@@ -3,7 +3,7 @@
 //! Blanks part words. In double quotes a blank belongs to the word, `\"` and `\\` stand for a quote and a backslash, and
 //! `\xHH` for any byte. A `#` in a word's place starts a comment.
 use crate::faults::{LineFault, ScriptError};
-use crate::hex::hex_digit;
+use crate::hex::{hex_digit, pair};
 use std::alloc::{AllocError, Global};
 
 /// Where in a line the splitter is.
@@ -14,6 +14,7 @@ enum Place {
     Quoted,
     Escape,
     FirstDigit,
+    /// Behind this first digit.
     SecondDigit(u8),
     Comment,
 }
@@ -71,7 +72,7 @@ impl Splitter {
                 self.place = Place::FirstDigit;
                 Ok(())
             }
-            _ => Err(ScriptError::Line(LineFault::UnknownEscape)),
+            _ => Err(LineFault::UnknownEscape.into()),
         }
     }
 
@@ -87,12 +88,12 @@ impl Splitter {
             },
             Place::Escape => self.take_escaped(byte)?,
             Place::FirstDigit => {
-                let high = hex_digit(byte).ok_or(LineFault::UnknownEscape)?;
-                self.place = Place::SecondDigit(high & 15);
+                hex_digit(byte).ok_or(LineFault::UnknownEscape)?;
+                self.place = Place::SecondDigit(byte);
             }
             Place::SecondDigit(high) => {
-                let low = hex_digit(byte).ok_or(LineFault::UnknownEscape)?;
-                self.keep((high & 15) * 16 + (low & 15), Place::Quoted)?;
+                let escaped = pair(&[high, byte]).ok_or(LineFault::UnknownEscape)?;
+                self.keep(escaped, Place::Quoted)?;
             }
             Place::Comment => {}
         }
@@ -104,16 +105,9 @@ impl Splitter {
         match self.place {
             Place::Between | Place::Comment => {}
             Place::Word => self.end_word()?,
-            _ => return Err(ScriptError::Line(LineFault::UnclosedQuote)),
+            _ => return Err(LineFault::UnclosedQuote.into()),
         }
-        let Splitter {
-            heap: _,
-            words,
-            word,
-            place: _,
-        } = self;
-        drop(word);
-        Ok(words)
+        Ok(self.words)
     }
 }
 

@@ -1,7 +1,7 @@
 use Rattle.std.proofs.Common.{◌≡◌, ◌*◌, ◌/◌, ◌%◌, true, ◌&&◌, eqb, length, drop, is_ok, ap, ◌∙◌, arith, rules}
 use Rattle.std.proofs.lemmas.List.{take_at}
 use Rattle.std.proofs.lemmas.Bool.{cond-true, and_from, eq-eqb}
-use Rattle.clearing.proofs.desk.image_of.Goals as goal
+use Rattle.clearing.proofs.book_answers.image_of.Goals as goal
 
 pub returns : goal.returns
 returns g c =
