@@ -3,8 +3,7 @@ ghost use Rattle.std.specs.Prelude.{◌≡◌, map, IfOk};
 ghost use Rattle.block.specs.Block.{block_of};
 ghost use Rattle.clearing.specs.Assigned.{field_value};
 
-use crate::commands::Wanted;
-use crate::faults::{LineFault, ScriptError};
+use crate::faults::{LineFault, RefusedField, ScriptError, Wanted};
 use crate::hex::{number, push_bytes};
 use crate::names::{Name, named};
 use block::BLOCK;
@@ -65,9 +64,10 @@ pub(crate) fn composed(fields: &[Assigned]) -> Result<[u8; BLOCK], LineFault>
     let mut block = [0; BLOCK];
     let mut writer = BlockWriter::new(&mut block);
     for field in fields {
+        let name = field.name;
         writer
-            .put(field.name.tag.number(), field.value.as_slice())
-            .map_err(|refusal| LineFault::Refused(field.name, refusal))?;
+            .put(name.tag.number(), field.value.as_slice())
+            .map_err(|refusal| LineFault::Refused(RefusedField { name, refusal }))?;
     }
     writer.close();
     Ok(block)

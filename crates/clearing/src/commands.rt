@@ -1,68 +1,15 @@
 //! The commands of a script, from the words of a line.
 use crate::assigning::{Assigned, assignment};
-use crate::faults::{LineFault, ScriptError};
+use crate::faults::{LineFault, ScriptError, Wanted};
 use crate::hex::{number, push_bytes, sixteen_bytes};
 use cases::case::{Case, CaseName, Original, OriginalKind, State, Subject};
 use std::alloc::Global;
-use std::fmt;
 use std::str::from_utf8;
 use values::amount::Amount;
 use values::identifier::Identifier;
 use values::member_code::MemberCode;
 use values::text::EndToEnd;
 use values::uetr::Uetr;
-
-/// What was expected in the place of some words.
-#[derive(Clone, Copy)]
-pub(crate) enum Wanted {
-    Nothing,
-    Field,
-    HexPairs,
-    ThreeNumbers,
-    New,
-    File,
-    OpenCase,
-    ChangeCase,
-    FindCase,
-    Kind,
-    Identifier,
-    Uetr,
-    Amount,
-    Member,
-    Original,
-    Text,
-    Place,
-    State,
-}
-
-impl fmt::Display for Wanted {
-    fn fmt<W: fmt::Write>(&self, f: &mut fmt::Formatter<W>) -> fmt::Result {
-        f.write_str(match *self {
-            Wanted::Nothing => "nothing behind this command",
-            Wanted::Field => "a field, as NAME=VALUE",
-            Wanted::HexPairs => "pairs of hex digits",
-            Wanted::ThreeNumbers => "three numbers: spoil BLOCK BYTE VALUE",
-            Wanted::New => "new rows N or new image N",
-            Wanted::File => "the name of one file",
-            Wanted::OpenCase =>
-                "open-case KIND IDENTIFIER UETR AMOUNT OPENER ASSIGNEE ORIGINAL-KIND ORIGINAL TEXT",
-            Wanted::ChangeCase => "change-case PLACE STATE CLOSING",
-            Wanted::FindCase => "find-case IDENTIFIER UETR",
-            Wanted::Kind => "the kind 13 or 56",
-            Wanted::Identifier =>
-                "an identifier: a member's code, a date and six capital letters or digits",
-            Wanted::Uetr => "a UETR: 32 hex digits, not all zero",
-            Wanted::Amount => "an amount from 1 to 999999999999999",
-            Wanted::Member => "a member's code: six digits",
-            Wanted::Original =>
-                "an original: of kind 13 none, as - -, and of kind 56 the kind 8, 9 or 13 and an identifier",
-            Wanted::Text => "a text of 1 to 35 printable characters",
-            Wanted::Place => "a place: a number from 0 on",
-            Wanted::State =>
-                "a state from 1 to 5 and a closing identifier exactly from 3 on, else -",
-        })
-    }
-}
 
 /// What a line asks for.
 #[derive(Drop)]
@@ -116,7 +63,7 @@ impl Command {
             b"new" => Command::New(new_book(rest)?),
             b"mount" => Command::Mount(file(heap, rest)?),
             b"save" => Command::Save(file(heap, rest)?),
-            b"open-case" => Command::Ask(Question::Open(open_case(rest)?)),
+            b"open-case" => Command::Ask(open_case(rest)?),
             b"change-case" => Command::Ask(change_case(rest)?),
             b"find-case" => Command::Ask(find_case(rest)?),
             b"book" => Command::Ask(alone(rest, Question::List)?),
@@ -188,8 +135,7 @@ fn file(heap: Global, words: &[Vec<u8>]) -> Result<String, ScriptError> {
     Ok(String::from_str(heap, name)?)
 }
 
-/// The case that words ask to open.
-fn open_case(words: &[Vec<u8>]) -> Result<Case, Wanted> {
+fn open_case(words: &[Vec<u8>]) -> Result<Question, Wanted> {
     let [
         kind,
         id,
@@ -204,7 +150,7 @@ fn open_case(words: &[Vec<u8>]) -> Result<Case, Wanted> {
     else {
         return Err(Wanted::OpenCase);
     };
-    Ok(Case {
+    Ok(Question::Open(Case {
         subject: subject(kind, original_kind, original)?,
         name: name(id, reference)?,
         amount: number(sum).and_then(Amount::new).ok_or(Wanted::Amount)?,
@@ -212,7 +158,7 @@ fn open_case(words: &[Vec<u8>]) -> Result<Case, Wanted> {
         assignee: MemberCode::read(assignee).ok_or(Wanted::Member)?,
         end_to_end: EndToEnd::read(text).ok_or(Wanted::Text)?,
         state: State::Open,
-    })
+    }))
 }
 
 fn subject(kind: &[u8], original_kind: &[u8], word: &[u8]) -> Result<Subject, Wanted> {
@@ -247,7 +193,6 @@ fn name(id: &[u8], reference: &[u8]) -> Result<CaseName, Wanted> {
     Ok(CaseName { identifier, uetr })
 }
 
-/// The change of a case's state that words ask for.
 fn change_case(words: &[Vec<u8>]) -> Result<Question, Wanted> {
     let [place, state, closing] = words else {
         return Err(Wanted::ChangeCase);
@@ -269,7 +214,6 @@ fn state_of(word: &[u8], closing: &[u8]) -> Result<State, Wanted> {
     }
 }
 
-/// The case that words ask to find.
 fn find_case(words: &[Vec<u8>]) -> Result<Question, Wanted> {
     let [id, reference] = words else {
         return Err(Wanted::FindCase);

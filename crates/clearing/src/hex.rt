@@ -2,8 +2,7 @@
 ghost use Rattle.std.specs.Prelude.{◌≡◌, ◌<◌, IfSome};
 ghost use Rattle.clearing.specs.Hex.{hex_digit, decimal_digit};
 
-use crate::commands::Wanted;
-use crate::faults::{LineFault, ScriptError};
+use crate::faults::{LineFault, ScriptError, Wanted};
 use block::{BLOCK, BODY};
 
 /// The zeros up to the check of a block.

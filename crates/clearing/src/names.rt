@@ -2,7 +2,7 @@
 use tags::listing::Tag;
 
 /// A field's name and what it means.
-#[derive(Clone, Copy)]
+#[derive(Clone, Copy, Debug)]
 pub(crate) struct Name {
     pub tag: Tag,
     pub text: &'static str,

@@ -1,5 +1,5 @@
 //! The message that a script composes.
-ghost use Rattle.std.specs.Prelude.{◌≡◌, OnErr};
+ghost use Rattle.std.specs.Prelude.{◌≡◌};
 ghost use Rattle.clearing.specs.Lines.{NothingDone};
 
 use crate::answers::Answers;
@@ -64,20 +64,7 @@ impl Session {
         show_read(out, self.message.as_slice())
     }
 
-    /// Sets a byte of a block, if there is one.
-    fn set_byte(&mut self, block: u64, place: u64, value: u64) -> Result<(), LineFault>
-        ensures { OnErr result (self.new ≡ self.old) }
-    {
-        match (offset(block, place), u8::try_from(value)) {
-            (Some(at), Ok(value)) if at < self.message.len() => {
-                self.message[at] = value;
-                Ok(())
-            }
-            _ => Err(LineFault::NoSuchByte),
-        }
-    }
-
-    /// Sets a byte of a block, and leaves the check.
+    /// Sets a byte of a block, if there is one, and leaves the check.
     pub(crate) fn spoil(
         &mut self,
         block: u64,
@@ -88,7 +75,10 @@ impl Session {
         ensures session { NothingDone result self.old self.new }
         ensures out { NothingDone result out.old out.new }
     {
-        self.set_byte(block, place, value)?;
+        match (offset(block, place), u8::try_from(value)) {
+            (Some(at), Ok(byte)) if at < self.message.len() => self.message[at] = byte,
+            _ => return Err(LineFault::NoSuchByte.into()),
+        }
         out.answer(
             format_args!("spoil: {block} {place} {value}"),
             "the byte is changed and the check is not",
