@@ -1,5 +1,5 @@
 //! Answering questions about a book.
-ghost use Rattle.std.specs.Prelude.{◌≡◌, IfOk, IfSome};
+ghost use Rattle.std.specs.Prelude.{◌≡◌, IfOk};
 ghost use Rattle.image.specs.Image.{image};
 ghost use Rattle.clearing.specs.Lines.{NothingDone};
 
@@ -128,15 +128,11 @@ impl fmt::Display for Listed<'_> {
         let case = self.0;
         write!(
             f,
-            "{} {} {} {} ",
+            "{} {} {} {} {} {} {} {} {}",
             case.subject.number(),
             Quoted(&case.name.identifier.bytes),
             Hex(&case.name.uetr.bytes),
             StateAndClosing(case.state),
-        )?;
-        write!(
-            f,
-            "{} {} {} {} {}",
             case.amount.kopecks,
             Quoted(&case.opener.bytes),
             Quoted(&case.assignee.bytes),
@@ -188,17 +184,16 @@ pub(crate) fn image_of<B: CaseBook>(heap: Global, book: &B) -> Result<Vec<u8>, A
     Ok(bytes)
 }
 
-/// Writes the image of the book into a file.
+/// Writes the image of a book into a file.
 pub(crate) fn save_image<B: CaseBook>(
     rt: &HostRuntime,
     path: String,
-    book: &Option<B>,
+    book: &B,
     out: &mut Answers,
 ) -> Result<(), ScriptError>
-    requires { IfSome book.now B.sound }
+    requires { B.sound book.now }
     ensures { NothingDone result out.old out.new }
 {
-    let book = book.as_ref().ok_or(LineFault::NoBook)?;
     let bytes = image_of(rt.alloc(), book)?;
     fs::write(rt, path.as_str(), bytes.as_slice()).map_err(|_| LineFault::CannotWrite)?;
     out.answer("save: 0", "the file holds the image of the book")?;

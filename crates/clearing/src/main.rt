@@ -124,11 +124,14 @@ impl<'a> Script<'a> {
             Command::Clear => self.session.clear(&mut self.out)?,
             Command::New(book) => return Ok(make(heap, book, &mut self.out)?),
             Command::Mount(path) => return mount(self.rt, path, &mut self.out),
-            Command::Save(path) => save_image(self.rt, path, book, &mut self.out)?,
-            Command::Ask(question) => match book {
-                Some(book) => answer_question(book, question, &mut self.out)?,
-                None => return Err(LineFault::NoBook.into()),
-            },
+            Command::Save(path) => {
+                let book = book.as_ref().ok_or(LineFault::NoBook)?;
+                save_image(self.rt, path, book, &mut self.out)?;
+            }
+            Command::Ask(question) => {
+                let book = book.as_mut().ok_or(LineFault::NoBook)?;
+                answer_question(book, question, &mut self.out)?;
+            }
         }
         Ok(None)
     }
