@@ -9,6 +9,7 @@ use crate::faults::{LineFault, ScriptError};
 use crate::shown::{Hex, Quoted};
 use block::BLOCK;
 use books::book::CaseBook;
+use books::iter::Cases;
 use books::refusal::BookRefusal;
 use books::totals::{Totals, totals_of};
 use cases::case::{Case, State, Subject};
@@ -81,13 +82,11 @@ pub(crate) fn answer_question<B: CaseBook>(
 fn show_cases<B: CaseBook>(out: &mut Answers, book: &B) -> Result<(), AllocError>
     requires { B.sound book.now }
 {
-    for at in 0..book.count() {
-        if let Some(case) = book.case_at(at) {
-            out.answer(
-                format_args!("case: {at} {}", Listed(&case)),
-                format_args!("the case at place {at} is {}", state_name(case.state)),
-            )?;
-        }
+    for (case, at) in Cases::of(book).zip(0u64..) {
+        out.answer(
+            format_args!("case: {at} {}", Listed(&case)),
+            format_args!("the case at place {at} is {}", state_name(case.state)),
+        )?;
     }
     Ok(())
 }

@@ -3,6 +3,7 @@ use crate::assigning::{Assigned, assignment};
 use crate::faults::{LineFault, ScriptError, Wanted};
 use crate::hex::{number, push_bytes, sixteen_bytes};
 use cases::case::{Case, CaseName, Original, OriginalKind, State, Subject};
+use octets::readable::Readable;
 use std::alloc::Global;
 use std::str::from_utf8;
 use values::amount::Amount;

@@ -121,9 +121,6 @@ pub(crate) fn named(text: &[u8]) -> Option<Name> {
 }
 
 /// The name of the field with this tag, if there is one.
-pub(crate) fn name_of(tag: u16) -> Option<Name> {
-    NAMES
-        .iter()
-        .find(|name| u16::from(name.tag.number()) == tag)
-        .copied()
+pub(crate) fn name_of(tag: u8) -> Option<Name> {
+    NAMES.iter().find(|name| name.tag.number() == tag).copied()
 }

@@ -7,8 +7,9 @@ use block::fields::Fields;
 use content::decode::{Content, decode};
 use content::header::Purpose;
 use message::read::{ReadMessage, read};
-use message::refusal::{Layer, Refusal};
+use message::refusal::Refusal;
 use std::alloc::AllocError;
+use values::kind::Kind;
 
 /// The most blocks of a message: a header and sixteen transactions.
 const MOST_BLOCKS: u8 = 17;
@@ -37,12 +38,13 @@ fn show_message(out: &mut Answers, message: &ReadMessage) -> Result<(), AllocErr
 }
 
 fn show_kind(out: &mut Answers, content: &Content) -> Result<(), AllocError> {
-    let (number, text, iso) = match content.header.purpose {
-        Purpose::Request { .. } => (13, "request to pay", "pain.013"),
-        Purpose::Report(_) => (14, "report on a request", "pain.014"),
-        Purpose::Recall(_) => (56, "recall", "camt.056"),
-        Purpose::Reply(_) => (29, "reply to a recall", "camt.029"),
+    let (kind, text, iso) = match content.header.purpose {
+        Purpose::Request { .. } => (Kind::Request, "request to pay", "pain.013"),
+        Purpose::Report(_) => (Kind::Report, "report on a request", "pain.014"),
+        Purpose::Recall(_) => (Kind::Recall, "recall", "camt.056"),
+        Purpose::Reply(_) => (Kind::Reply, "reply to a recall", "camt.029"),
     };
+    let number = kind.number();
     let count = content.transactions().len();
     let announced = content.header.number;
     out.answer(
@@ -63,10 +65,9 @@ fn show_block(out: &mut Answers, number: u8, block: &[u8; BLOCK]) -> Result<(), 
             format_args!("the fields of block {number} are those of one transaction"),
         )?,
     }
-    let mut fields = Fields::of(block, number);
-    while let Ok(Some(part)) = fields.next() {
+    for part in Fields::of(block, number).map_while(|field| field.ok()) {
         let at = part.at;
-        if let Some(name) = name_of(u16::from(part.tag.number())) {
+        if let Some(name) = name_of(part.tag.number()) {
             out.answer(
                 format_args!("field: {number} {at} {} {}", name.text, Value(&part)),
                 format_args!("the {}, at byte {at} of block {number}", name.meaning),
@@ -76,47 +77,33 @@ fn show_block(out: &mut Answers, number: u8, block: &[u8; BLOCK]) -> Result<(), 
     Ok(())
 }
 
+/// Prints why bytes are refused.
 fn show_refusal(out: &mut Answers, refusal: Refusal) -> Result<(), AllocError> {
-    let Refusal {
-        number,
-        layer,
-        block,
-        place,
-    } = refusal;
-    let layer = match layer {
-        Layer::Blocks => "blocks",
-        Layer::Fields => "fields",
-    };
-    out.line(format_args!("read: {number} {layer} {block} {place}"))?;
-    match number {
-        1 => out.explain("refused: a message has 1 to 17 blocks of 512 bytes"),
-        2 => out.explain(
+    out.line(format_args!("read: {refusal}"))?;
+    match refusal {
+        Refusal::NotWhole => out.explain("refused: a message has 1 to 17 blocks of 512 bytes"),
+        Refusal::WrongCheck { .. } => out.explain(
             "refused: the last two bytes of the block are not the check of the others",
         ),
-        3 => out.explain(
+        Refusal::BrokenLayout { .. } => out.explain(
             "refused: at this byte stands no field that may stand there, or a byte that should be zero",
         ),
-        _ => explain_field(out, refusal),
+        // In a header the kind is refused only where it gives no shape to judge the other fields by.
+        Refusal::MisplacedTag { block: 0, tag: 1 } => out.explain(
+            "refused: the kind is missing or not one of 13, 14, 29 and 56",
+        ),
+        Refusal::MisplacedTag { tag, .. } => out.explain(format_args!(
+            "refused: the field {} (tag {tag}) is missing or has no place in the block",
+            field_name(tag)
+        )),
+        Refusal::UnfitValue { tag, .. } => out.explain(format_args!(
+            "refused: the value of the field {} (tag {tag}) is not of its form",
+            field_name(tag)
+        )),
     }
 }
 
-/// Adds what the refusal of a field means, where that is asked for. Its place is the tag of the field.
-fn explain_field(out: &mut Answers, refusal: Refusal) -> Result<(), AllocError> {
-    let Refusal {
-        number,
-        layer: _,
-        block,
-        place: tag,
-    } = refusal;
-    let text = name_of(tag).map_or("unknown", |name| name.text);
-    match (number, block, tag) {
-        // In a header the kind is refused only where it gives no shape to judge the other fields by.
-        (4, 0, 1) => out.explain("refused: the kind is missing or not one of 13, 14, 29 and 56"),
-        (4, _, _) => out.explain(format_args!(
-            "refused: the field {text} (tag {tag}) is missing or has no place in the block"
-        )),
-        _ => out.explain(format_args!(
-            "refused: the value of the field {text} (tag {tag}) is not of its form"
-        )),
-    }
+/// The name of the field with this tag.
+fn field_name(tag: u8) -> &'static str {
+    name_of(tag).map_or("unknown", |name| name.text)
 }
