@@ -1,4 +1,3 @@
-pub mod Weighing
 pub mod Encoding
 pub mod Laying
 pub mod Putting

@@ -1,5 +1,5 @@
 -- How many cases are in each state.
-use Rattle.std.specs.Prelude.{ℕ, ◌+◌, ◌<◌, cond, List, [], ◌∷◌, ◌==◌}
+use Rattle.std.specs.Prelude.{ℕ, ◌+◌, ◌<◌, cond, List, count_by, ◌==◌}
 use Rattle.cases.specs.Cases.{StateValue, CaseValue}
 use Rattle.cases.specs.Numbers.{state_number}
 use Rattle.books.specs.declared.totals.Totals.{Totals}
@@ -10,8 +10,7 @@ one_in n s = cond (state_number s == n) 1 0
 
 -- how many of the cases are in the state with the number n
 abbrev pub count_in : ℕ → List CaseValue → ℕ
-count_in n [] = 0
-count_in n (c ∷ cs) = one_in n c.state + count_in n cs
+count_in n cs = count_by (λ c. state_number c.state == n) cs
 
 -- the number of cases in each state
 abbrev pub totals_of : List CaseValue → Totals

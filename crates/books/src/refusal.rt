@@ -1,6 +1,8 @@
 //! Why a book refuses.
 ghost use Rattle.std.specs.Prelude.{◌≡◌};
-ghost use Rattle.books.specs.Refusals.{refusal_number};
+ghost use Rattle.books.specs.Refusals.{refusal_number, of_table};
+
+use table::TableRefusal;
 
 /// Why a book is not made, or does not do what it is asked, by the number under which it is reported.
 #[derive(Clone, Copy, Debug, PartialEq, Eq)]
@@ -21,5 +23,16 @@ impl BookRefusal {
         ensures { result ≡ refusal_number self }
     {
         self as u8
+    }
+}
+
+impl From<TableRefusal> for BookRefusal {
+    ghost from_gives = { λ refusal r. r ≡ of_table refusal };
+
+    fn from(refusal: TableRefusal) -> BookRefusal {
+        match refusal {
+            TableRefusal::NoRow => BookRefusal::NoPlace,
+            TableRefusal::Full => BookRefusal::Full,
+        }
     }
 }

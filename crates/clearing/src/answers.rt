@@ -1,5 +1,5 @@
 //! How the program answers.
-use crate::faults::OutOfMemory;
+use std::alloc::{AllocError, Global};
 use std::fmt;
 use std::fmt::Write;
 
@@ -10,27 +10,50 @@ pub(crate) enum Style {
     Explained,
 }
 
-impl Style {
-    /// Adds a line with an answer, and what it means.
-    pub(crate) fn answer<A: fmt::Display + Drop, M: fmt::Display + Drop>(
-        self,
-        out: &mut String,
-        answer: A,
-        meaning: M,
-    ) -> Result<(), OutOfMemory> {
-        out.writeln(answer)?;
-        self.explain(out, meaning)
+/// What is answered, in a style.
+#[derive(Drop)]
+pub(crate) struct Answers {
+    text: String,
+    style: Style,
+}
+
+impl Answers {
+    pub(crate) fn new(heap: Global, style: Style) -> Answers {
+        Answers {
+            text: String::new(heap),
+            style,
+        }
+    }
+
+    pub(crate) fn text(&self) -> &str {
+        self.text.as_str()
+    }
+
+    /// Forgets what was answered.
+    pub(crate) fn clear(&mut self) {
+        self.text.clear();
+    }
+
+    /// Adds a line with an answer.
+    pub(crate) fn line<A: fmt::Display + Drop>(&mut self, answer: A) -> Result<(), AllocError> {
+        self.text.writeln(answer)
     }
 
     /// Adds what an answer means, where that is asked for.
-    pub(crate) fn explain<M: fmt::Display + Drop>(
-        self,
-        out: &mut String,
-        meaning: M,
-    ) -> Result<(), OutOfMemory> {
-        if let Style::Explained = self {
-            writeln!(out, "  {meaning}")?;
+    pub(crate) fn explain<M: fmt::Display + Drop>(&mut self, meaning: M) -> Result<(), AllocError> {
+        match self.style {
+            Style::Terse => Ok(()),
+            Style::Explained => writeln!(self.text, "  {meaning}"),
         }
-        Ok(())
+    }
+
+    /// Adds a line with an answer, and what it means.
+    pub(crate) fn answer<A: fmt::Display + Drop, M: fmt::Display + Drop>(
+        &mut self,
+        answer: A,
+        meaning: M,
+    ) -> Result<(), AllocError> {
+        self.line(answer)?;
+        self.explain(meaning)
     }
 }

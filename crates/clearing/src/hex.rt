@@ -1,35 +1,26 @@
 //! Hex digits and decimal numbers.
-ghost use Rattle.std.specs.Prelude.{◌≡◌};
+ghost use Rattle.std.specs.Prelude.{◌≡◌, ◌<◌, IfSome};
 ghost use Rattle.clearing.specs.Hex.{hex_digit, decimal_digit};
 
-use crate::faults::{LineFault, OutOfMemory, ScriptError};
+use crate::faults::{LineFault, ScriptError, Wanted};
 use block::{BLOCK, BODY};
-use std::alloc::Global;
 
-const DIGITS: [char; 16] = [
-    '0', '1', '2', '3', '4', '5', '6', '7', '8', '9', 'a', 'b', 'c', 'd', 'e', 'f',
-];
+/// The zeros up to the check of a block.
+const ZEROS: [u8; BODY] = [0; BODY];
 
 /// What a hex digit stands for.
-pub(crate) fn hex_digit(byte: u8) -> Option<u8>
-    ensures { result ≡ hex_digit byte }
+pub(crate) fn hex_digit(byte: u8) -> Option<u32>
+    ensures value { result ≡ hex_digit byte }
+    ensures below { IfSome result (λ digit. digit < 16) }
 {
-    match byte {
-        b'0'..=b'9' => Some(byte - b'0'),
-        b'a'..=b'f' => Some(byte - b'a' + 10),
-        b'A'..=b'F' => Some(byte - b'A' + 10),
-        _ => None,
-    }
+    char::from(byte).to_digit(16)
 }
 
 /// What a decimal digit stands for.
-fn decimal_digit(byte: u8) -> Option<u8>
+fn decimal_digit(byte: u8) -> Option<u32>
     ensures { result ≡ decimal_digit byte }
 {
-    match byte {
-        b'0'..=b'9' => Some(byte - b'0'),
-        _ => None,
-    }
+    char::from(byte).to_digit(10)
 }
 
 /// The number that decimal digits write, if they write one below 2^64.
@@ -37,35 +28,30 @@ pub(crate) fn number(text: &[u8]) -> Option<u64> {
     if text.is_empty() {
         return None;
     }
-    let mut total: u64 = 0;
-    for byte in text {
+    text.iter().try_fold(0, |total: u64, byte| {
         let digit = decimal_digit(*byte)?;
-        total = total.checked_mul(10)?.checked_add(u64::from(digit))?;
-    }
-    Some(total)
-}
-
-/// Adds a byte as two hex digits.
-pub(crate) fn push_hex(out: &mut String, byte: u8) -> Result<(), OutOfMemory> {
-    out.push(DIGITS[byte as usize / 16])?;
-    out.push(DIGITS[byte as usize % 16])?;
-    Ok(())
-}
-
-/// Adds bytes as hex digits.
-pub(crate) fn push_all(out: &mut String, bytes: &[u8]) -> Result<(), OutOfMemory> {
-    for byte in bytes {
-        push_hex(out, *byte)?;
-    }
-    Ok(())
+        total.checked_mul(10)?.checked_add(u64::from(digit))
+    })
 }
 
 /// The byte that two hex digits write.
-fn pair(high: u8, low: u8) -> Result<u8, LineFault> {
-    match (hex_digit(high), hex_digit(low)) {
-        (Some(high), Some(low)) => Ok((high & 15) * 16 + (low & 15)),
-        _ => Err(LineFault::NotHex),
+pub(crate) fn pair(digits: &[u8]) -> Option<u8> {
+    let [high, low] = digits else {
+        return None;
+    };
+    u8::try_from(hex_digit(*high)? * 16 + hex_digit(*low)?).ok()
+}
+
+/// The bytes that 32 hex digits write.
+pub(crate) fn sixteen_bytes(text: &[u8]) -> Option<[u8; 16]> {
+    if text.len() != 32 {
+        return None;
     }
+    let mut bytes = [0; 16];
+    for (byte, digits) in bytes.iter_mut().zip(text.chunks_exact(2)) {
+        *byte = pair(digits)?;
+    }
+    Some(bytes)
 }
 
 /// Adds the bytes that pairs of hex digits write. Two dots stand for zeros up to the check of the block that they stand
@@ -75,22 +61,12 @@ pub(crate) fn push_bytes(bytes: &mut Vec<u8>, text: &[u8]) -> Result<(), ScriptE
         return Ok(());
     }
     for digits in text.chunks(2) {
-        match digits {
-            b".." => push_zeros(bytes)?,
-            [high, low] => bytes.push(pair(*high, *low)?)?,
-            _ => return Err(ScriptError::Line(LineFault::NotHex)),
+        if let b".." = digits {
+            let used = bytes.len() % BLOCK;
+            bytes.extend_from_slice(ZEROS.get(used..).ok_or(LineFault::NotABlockEnd)?)?;
+        } else {
+            bytes.push(pair(digits).ok_or(Wanted::HexPairs)?)?;
         }
-    }
-    Ok(())
-}
-
-fn push_zeros(bytes: &mut Vec<u8>) -> Result<(), ScriptError> {
-    let used = bytes.len() % BLOCK;
-    if used > BODY {
-        return Err(ScriptError::Line(LineFault::NotABlockEnd));
-    }
-    for _ in used..BODY {
-        bytes.push(0)?;
     }
     Ok(())
 }

@@ -1,5 +1,5 @@
 //! The lines of a script, one after the other.
-ghost use Rattle.std.specs.Prelude.{◌≡◌, ◌<◌, ◌≤◌, true, length, is_some};
+ghost use Rattle.std.specs.Prelude.{◌≡◌, ◌<◌, ◌≤◌, true, false, length, is_some};
 
 /// The lines that are left, the number of the last one taken, and how many made no sense.
 #[derive(Drop)]
@@ -13,12 +13,10 @@ pub(crate) struct Lines<'a> {
 fn line_end(bytes: &[u8]) -> usize
     ensures { result ≤ length bytes.now }
 {
-    for (at, byte) in bytes.iter().enumerate() {
-        if *byte == b'\n' {
-            return at;
-        }
-    }
-    bytes.len()
+    bytes
+        .iter()
+        .position(|byte| *byte == b'\n')
+        .unwrap_or(bytes.len())
 }
 
 impl<'a> Lines<'a> {
@@ -32,7 +30,8 @@ impl<'a> Lines<'a> {
 
     /// The next line, without its end.
     pub(crate) fn next(&mut self) -> Option<&'a [u8]>
-        ensures { is_some result ≡ true → length self.new.rest.now < length self.old.rest.now }
+        ensures shorter { is_some result ≡ true → length self.new.rest.now < length self.old.rest.now }
+        ensures at_end { is_some result ≡ false → self.new.rest.now ≡ self.old.rest.now }
     {
         if self.rest.is_empty() {
             return None;

@@ -8,8 +8,7 @@
 mod answers;
 mod assigning;
 mod book_answers;
-mod book_words;
-mod desk;
+mod commands;
 mod faults;
 mod hex;
 mod lines;
@@ -17,20 +16,24 @@ mod making;
 mod names;
 mod reading;
 mod session;
+mod shown;
 mod words;
 
+ghost use Rattle.std.specs.Prelude.{◌≡◌, ◌+◌, ◌≤◌, length, IfSome, IfOk};
+ghost use Rattle.std.specs.Option.{option_to_list};
 ghost use Rattle.clearing.specs.Lines.{NothingDone};
 
-use crate::answers::Style;
-use crate::book_words::{BookWord, NewBook, file, new_book, read_question};
-use crate::desk::{Desk, Held, NoBook, refusal_meaning};
+use crate::answers::{Answers, Style};
+use crate::book_answers::{answer_question, save_image};
+use crate::commands::Command;
 use crate::faults::{LineFault, ScriptError};
 use crate::lines::Lines;
-use crate::making::{Memory, mounted, new_image, new_rows};
+use crate::making::{Memory, make, mount};
+use crate::reading::show_read;
 use crate::session::Session;
 use crate::words::split;
 use anyhow::anyhow;
-use books::refusal::BookRefusal;
+use books::book::CaseBook;
 use image::book::ImageBook;
 use rows::RowsBook;
 use std::io::Read;
@@ -52,12 +55,10 @@ fn read_arguments(rt: &HostRuntime) -> anyhow::Result<Arguments> {
     let mut style = Style::Terse;
     let mut script = None;
     for word in env::args(rt)?.skip(1) {
-        if word.as_str() == "explain" {
-            style = Style::Explained;
-        } else if script.is_some() {
-            return Err(failure("expected one script at most: clearing [explain] [SCRIPT]"));
-        } else {
-            script = Some(word);
+        match word.as_str() {
+            "explain" => style = Style::Explained,
+            _ if script.is_none() => script = Some(word),
+            _ => return Err(failure("expected one script at most: clearing [explain] [SCRIPT]")),
         }
     }
     Ok(Arguments { style, script })
@@ -74,195 +75,127 @@ fn input(rt: &HostRuntime, script: Option<String>) -> anyhow::Result<Vec<u8>> {
     }
 }
 
-/// What a line came to: it is done, or it made a book.
+/// A script that is being carried out.
 #[derive(Drop)]
-enum Outcome {
-    Done,
-    Made(Memory),
+struct Script<'a> {
+    rt: &'a HostRuntime,
+    lines: Lines<'a>,
+    session: Session,
+    out: Answers,
 }
 
-/// Answers the making of a book.
-fn answer_making(
-    session: &Session,
-    word: &'static str,
-    memory: Result<Memory, BookRefusal>,
-    out: &mut String,
-) -> Result<Outcome, ScriptError>
-    ensures { NothingDone result out.old out.new }
-{
-    match memory {
-        Ok(memory) => {
-            session
-                .style
-                .answer(out, format_args!("{word}: 0"), "the book is there")?;
-            Ok(Outcome::Made(memory))
-        }
-        Err(refusal) => {
-            let number = refusal.number();
-            session.style.answer(
-                out,
-                format_args!("{word}: {number}"),
-                refusal_meaning(refusal),
-            )?;
-            Ok(Outcome::Done)
+impl<'a> Script<'a> {
+    fn new(rt: &'a HostRuntime, script: &'a [u8], style: Style) -> Script<'a> {
+        Script {
+            rt,
+            lines: Lines::of(script),
+            session: Session::new(rt.alloc()),
+            out: Answers::new(rt.alloc(), style),
         }
     }
-}
 
-/// Makes an empty book, where its memory is accepted.
-fn make(session: &Session, book: NewBook, out: &mut String) -> Result<Outcome, ScriptError>
-    ensures { NothingDone result out.old out.new }
-{
-    match book {
-        NewBook::Rows(count) => answer_making(session, "new", new_rows(session.heap, count)?, out),
-        NewBook::Image(count) => answer_making(
-            session,
-            "new",
-            new_image(session.heap, count)?,
-            out,
-        ),
-    }
-}
-
-/// Makes the book whose image a file holds.
-fn mount(
-    rt: &HostRuntime,
-    session: &Session,
-    path: String,
-    out: &mut String,
-) -> Result<Outcome, ScriptError>
-    ensures { NothingDone result out.old out.new }
-{
-    match fs::read(rt, path.as_str()) {
-        Ok(bytes) => answer_making(session, "mount", mounted(bytes), out),
-        Err(_) => Err(ScriptError::Line(LineFault::CannotRead)),
-    }
-}
-
-/// Writes the image of a book into a file.
-fn save_image(
-    rt: &HostRuntime,
-    session: &Session,
-    path: String,
-    bytes: Vec<u8>,
-    out: &mut String,
-) -> Result<Outcome, ScriptError>
-    ensures { NothingDone result out.old out.new }
-{
-    match fs::write(rt, path.as_str(), bytes.as_slice()) {
-        Ok(()) => {
-            session
-                .style
-                .answer(out, "save: 0", "the file holds the image of the book")?;
-            Ok(Outcome::Done)
-        }
-        Err(_) => Err(ScriptError::Line(LineFault::CannotWrite)),
-    }
-}
-
-/// Carries out one line, and adds what it answers to `out`. Of a line that makes no sense nothing is done.
-fn carry_out<D: Desk>(
-    rt: &HostRuntime,
-    session: &mut Session,
-    desk: &mut D,
-    line: &[u8],
-    out: &mut String,
-) -> Result<Outcome, ScriptError>
-    requires { D.ready desk.old }
-    ensures kept { D.ready desk.new }
-    ensures session { NothingDone result session.old session.new }
-    ensures desk { NothingDone result desk.old desk.new }
-    ensures out { NothingDone result out.old out.new }
-{
-    let words = split(session.heap, line)?;
-    let Some((first, rest)) = words.as_slice().split_first() else {
-        return Ok(Outcome::Done);
-    };
-    let Some(word) = BookWord::named(first.as_slice()) else {
-        session.run(words.as_slice(), out)?;
-        return Ok(Outcome::Done);
-    };
-    match word {
-        BookWord::New => make(session, new_book(rest)?, out),
-        BookWord::Mount => mount(rt, session, file(session.heap, rest)?, out),
-        BookWord::Save => {
-            let path = file(session.heap, rest)?;
-            let bytes = desk.image(session.heap)?;
-            save_image(rt, session, path, bytes, out)
-        }
-        BookWord::Ask(asked) => {
-            desk.ask(read_question(asked, rest)?, session.style, out)?;
-            Ok(Outcome::Done)
-        }
-    }
-}
-
-/// Carries out the lines up to the next that makes a book, and prints what they answer.
-fn run_lines<D: Desk>(
-    rt: &HostRuntime,
-    session: &mut Session,
-    lines: &mut Lines,
-    desk: &mut D,
-) -> anyhow::Result<Option<Memory>>
-    requires { D.ready desk.old }
-{
-    while let Some(line) = lines.next() {
-        let mut out = String::new(rt.alloc());
-        match carry_out(rt, session, desk, line, &mut out) {
-            Ok(Outcome::Done) => rt.print(out.as_str())?,
-            Ok(Outcome::Made(memory)) => {
-                rt.print(out.as_str())?;
-                return Ok(Some(memory));
-            }
-            Err(ScriptError::Line(fault)) => {
-                let number = lines.number;
-                eprintln!(rt; "line {number}: {fault}")?;
-                lines.count_fault();
-            }
-            Err(ScriptError::Memory) => return Err(failure("out of memory")),
-        }
-    }
-    Ok(None)
-}
-
-/// Carries out the lines with the book in this memory.
-fn run_with(
-    rt: &HostRuntime,
-    session: &mut Session,
-    lines: &mut Lines,
-    memory: Memory,
-) -> anyhow::Result<Option<Memory>> {
-    match memory {
-        Memory::Rows(mut rows) => match RowsBook::over(rows.as_mut_slice()) {
-            Ok(book) => run_lines(rt, session, lines, &mut Held { book }),
-            Err(_) => run_lines(rt, session, lines, &mut NoBook),
-        },
-        Memory::Image(mut bytes) => match ImageBook::mount(bytes.as_mut_slice()) {
-            Ok(book) => run_lines(rt, session, lines, &mut Held { book }),
-            Err(_) => run_lines(rt, session, lines, &mut NoBook),
-        },
-    }
-}
-
-/// Carries out every line; how many made no sense. Each line that makes a book has a byte at least, so no more books are
-/// made than the script has bytes.
-fn run_script(rt: &HostRuntime, style: Style, script: &[u8]) -> anyhow::Result<u64> {
-    let mut session = Session::new(rt.alloc(), style);
-    let mut lines = Lines::of(script);
-    let mut made = run_lines(rt, &mut session, &mut lines, &mut NoBook)?;
-    for _ in 0..script.len() {
-        let Some(memory) = made else {
-            break;
+    /// Carries out one line, and adds what it answers; the memory of the book that it made, if it made one. Of a line that
+    /// makes no sense nothing is done.
+    fn carry_out<B: CaseBook>(
+        &mut self,
+        book: &mut Option<B>,
+        line: &[u8],
+    ) -> Result<Option<Memory>, ScriptError>
+        requires { IfSome book.old B.sound }
+        ensures sound { IfSome book.new B.sound }
+        ensures session { NothingDone result self.old.session self.new.session }
+        ensures book { NothingDone result book.old book.new }
+        ensures out { NothingDone result self.old.out self.new.out }
+        ensures lines { self.new.lines ≡ self.old.lines }
+    {
+        let heap = self.rt.alloc();
+        let words = split(heap, line)?;
+        let Some((word, rest)) = words.as_slice().split_first() else {
+            return Ok(None);
         };
-        made = run_with(rt, &mut session, &mut lines, memory)?;
+        match Command::read(heap, word, rest)? {
+            Command::Block(fields) => self.session.add_block(&fields, &mut self.out)?,
+            Command::Write => self.session.write(&mut self.out)?,
+            Command::Read(None) => self.session.read(&mut self.out)?,
+            Command::Read(Some(bytes)) => show_read(&mut self.out, &bytes)?,
+            Command::Spoil(block, place, value) => self
+                .session
+                .spoil(block, place, value, &mut self.out)?,
+            Command::Clear => self.session.clear(&mut self.out)?,
+            Command::New(book) => return Ok(make(heap, book, &mut self.out)?),
+            Command::Mount(path) => return mount(self.rt, path, &mut self.out),
+            Command::Save(path) => {
+                let book = book.as_ref().ok_or(LineFault::NoBook)?;
+                save_image(self.rt, path, book, &mut self.out)?;
+            }
+            Command::Ask(question) => {
+                let book = book.as_mut().ok_or(LineFault::NoBook)?;
+                answer_question(book, question, &mut self.out)?;
+            }
+        }
+        Ok(None)
     }
-    Ok(lines.faults)
+
+    /// Carries out the lines up to the next that makes a book, and prints what they answer.
+    fn lines_with<B: CaseBook + Drop>(
+        &mut self,
+        mut book: Option<B>,
+    ) -> anyhow::Result<Option<Memory>>
+        requires { IfSome book B.sound }
+        ensures { IfOk result (λ made. length self.new.lines.rest.now + length (option_to_list made) ≤ length self.old.lines.rest.now) }
+    {
+        while let Some(line) = self.lines.next() {
+            match self.carry_out(&mut book, line) {
+                Ok(made) => {
+                    self.rt.print(self.out.text())?;
+                    self.out.clear();
+                    if made.is_some() {
+                        return Ok(made);
+                    }
+                }
+                Err(ScriptError::Line(fault)) => {
+                    let number = self.lines.number;
+                    eprintln!(self.rt; "line {number}: {fault}")?;
+                    self.lines.count_fault();
+                }
+                Err(ScriptError::Memory) => return Err(failure("out of memory")),
+            }
+        }
+        Ok(None)
+    }
+
+    /// Carries out the lines with the book in this memory.
+    fn lines_over(&mut self, memory: Memory) -> anyhow::Result<Option<Memory>>
+        ensures { IfOk result (λ made. length self.new.lines.rest.now + length (option_to_list made) ≤ length self.old.lines.rest.now) }
+    {
+        match memory {
+            Memory::Rows(mut rows) => {
+                let book = RowsBook::over(rows.as_mut_slice()).ok();
+                self.lines_with(book)
+            }
+            Memory::Image(mut bytes) => {
+                let book = ImageBook::mount(bytes.as_mut_slice()).ok();
+                self.lines_with(book)
+            }
+        }
+    }
+
+    /// Carries out every line.
+    fn every_line(&mut self) -> anyhow::Result<()> {
+        let mut made = self.lines_with(None::<RowsBook>)?;
+        while let Some(memory) = made {
+            made = self.lines_over(memory)?;
+        }
+        Ok(())
+    }
 }
 
 fn run(rt: &HostRuntime) -> anyhow::Result<()> {
     let Arguments { style, script } = read_arguments(rt)?;
-    let script = input(rt, script)?;
-    if run_script(rt, style, script.as_slice())? > 0 {
+    let text = input(rt, script)?;
+    let mut script = Script::new(rt, &text, style);
+    script.every_line()?;
+    if script.lines.faults > 0 {
         return Err(failure("lines that made no sense were passed over"));
     }
     Ok(())

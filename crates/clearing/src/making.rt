@@ -1,6 +1,11 @@
 //! Making books: memory that a book accepts.
-ghost use Rattle.std.specs.Prelude.{◌≤◌};
+ghost use Rattle.std.specs.Prelude.{◌≡◌, ◌≤◌};
+ghost use Rattle.clearing.specs.Lines.{NothingDone};
 
+use crate::answers::Answers;
+use crate::book_answers::answer_book;
+use crate::commands::NewBook;
+use crate::faults::{LineFault, ScriptError};
 use block::BLOCK;
 use books::book::MOST;
 use books::refusal::BookRefusal;
@@ -8,6 +13,7 @@ use cases::case::Case;
 use image::book::ImageBook;
 use rows::RowsBook;
 use std::alloc::{AllocError, Global};
+use std::fs;
 
 /// Memory in which a book can be made.
 #[derive(Drop)]
@@ -20,61 +26,55 @@ pub(crate) enum Memory {
 fn bounded(count: u64) -> usize
     ensures { result ≤ 4097 }
 {
-    match usize::try_from(count) {
-        Ok(count) => count.min(MOST + 1),
-        Err(_) => MOST + 1,
+    usize::try_from(count).map_or(MOST + 1, |count| count.min(MOST + 1))
+}
+
+impl Memory {
+    /// The rows of an empty book.
+    fn rows(mut rows: Vec<Case>) -> Result<Memory, BookRefusal> {
+        RowsBook::over(rows.as_mut_slice())?;
+        Ok(Memory::Rows(rows))
+    }
+
+    /// The image of an empty book.
+    fn empty_image(mut bytes: Vec<u8>) -> Result<Memory, BookRefusal> {
+        ImageBook::new(bytes.as_mut_slice())?;
+        Ok(Memory::Image(bytes))
+    }
+
+    /// The image that the bytes are.
+    fn image(mut bytes: Vec<u8>) -> Result<Memory, BookRefusal> {
+        ImageBook::mount(bytes.as_mut_slice())?;
+        Ok(Memory::Image(bytes))
     }
 }
 
-fn accepts_rows(rows: &mut [Case]) -> Result<(), BookRefusal> {
-    match RowsBook::over(rows) {
-        Ok(_) => Ok(()),
-        Err(refusal) => Err(refusal),
-    }
-}
-
-fn accepts_new_image(bytes: &mut [u8]) -> Result<(), BookRefusal> {
-    match ImageBook::new(bytes) {
-        Ok(_) => Ok(()),
-        Err(refusal) => Err(refusal),
-    }
-}
-
-fn accepts_image(bytes: &mut [u8]) -> Result<(), BookRefusal> {
-    match ImageBook::mount(bytes) {
-        Ok(_) => Ok(()),
-        Err(refusal) => Err(refusal),
-    }
-}
-
-/// Rows for so many cases.
-pub(crate) fn new_rows(
+/// Makes an empty book, where its memory is accepted.
+pub(crate) fn make(
     heap: Global,
-    count: u64,
-) -> Result<Result<Memory, BookRefusal>, AllocError> {
-    let mut rows = vec![in heap; Case::vacant(); bounded(count)]?;
-    match accepts_rows(rows.as_mut_slice()) {
-        Ok(()) => Ok(Ok(Memory::Rows(rows))),
-        Err(refusal) => Ok(Err(refusal)),
-    }
+    book: NewBook,
+    out: &mut Answers,
+) -> Result<Option<Memory>, AllocError> {
+    let memory = match book {
+        NewBook::Rows(count) => Memory::rows(vec![in heap; Case::vacant(); bounded(count)]?),
+        NewBook::Image(count) => Memory::empty_image(vec![in heap; 0; BLOCK * bounded(count)]?),
+    };
+    answer_book(out, "new", &memory, "the book is there")?;
+    Ok(memory.ok())
 }
 
-/// An image of so many blocks.
-pub(crate) fn new_image(
-    heap: Global,
-    count: u64,
-) -> Result<Result<Memory, BookRefusal>, AllocError> {
-    let mut bytes = vec![in heap; 0; BLOCK * bounded(count)]?;
-    match accepts_new_image(bytes.as_mut_slice()) {
-        Ok(()) => Ok(Ok(Memory::Image(bytes))),
-        Err(refusal) => Ok(Err(refusal)),
-    }
-}
-
-/// The image that the bytes are.
-pub(crate) fn mounted(mut bytes: Vec<u8>) -> Result<Memory, BookRefusal> {
-    match accepts_image(bytes.as_mut_slice()) {
-        Ok(()) => Ok(Memory::Image(bytes)),
-        Err(refusal) => Err(refusal),
-    }
+/// Makes the book whose image a file holds.
+pub(crate) fn mount(
+    rt: &HostRuntime,
+    path: String,
+    out: &mut Answers,
+) -> Result<Option<Memory>, ScriptError>
+    ensures { NothingDone result out.old out.new }
+{
+    let Ok(bytes) = fs::read(rt, path.as_str()) else {
+        return Err(LineFault::CannotRead.into());
+    };
+    let memory = Memory::image(bytes);
+    answer_book(out, "mount", &memory, "the book is there")?;
+    Ok(memory.ok())
 }

@@ -2,7 +2,7 @@
 use tags::listing::Tag;
 
 /// A field's name and what it means.
-#[derive(Clone, Copy)]
+#[derive(Clone, Copy, Debug)]
 pub(crate) struct Name {
     pub tag: Tag,
     pub text: &'static str,
@@ -114,20 +114,13 @@ const NAMES: [Name; 20] = [
 
 /// The field that is called so, if there is one.
 pub(crate) fn named(text: &[u8]) -> Option<Name> {
-    for name in NAMES.iter() {
-        if name.text.as_bytes() == text {
-            return Some(*name);
-        }
-    }
-    None
+    NAMES
+        .iter()
+        .find(|name| name.text.as_bytes() == text)
+        .copied()
 }
 
 /// The name of the field with this tag, if there is one.
-pub(crate) fn name_of(tag: u16) -> Option<Name> {
-    for name in NAMES.iter() {
-        if u16::from(name.tag.number()) == tag {
-            return Some(*name);
-        }
-    }
-    None
+pub(crate) fn name_of(tag: u8) -> Option<Name> {
+    NAMES.iter().find(|name| name.tag.number() == tag).copied()
 }

@@ -3,7 +3,7 @@
 //! Blanks part words. In double quotes a blank belongs to the word, `\"` and `\\` stand for a quote and a backslash, and
 //! `\xHH` for any byte. A `#` in a word's place starts a comment.
 use crate::faults::{LineFault, ScriptError};
-use crate::hex::hex_digit;
+use crate::hex::{hex_digit, pair};
 use std::alloc::{AllocError, Global};
 
 /// Where in a line the splitter is.
@@ -14,6 +14,7 @@ enum Place {
     Quoted,
     Escape,
     FirstDigit,
+    /// Behind this first digit.
     SecondDigit(u8),
     Comment,
 }
@@ -51,50 +52,26 @@ impl Splitter {
         Ok(())
     }
 
-    /// A byte outside quotes.
-    fn take_bare(&mut self, byte: u8, in_word: Place) -> Result<(), ScriptError> {
-        match (byte, in_word) {
-            (b' ' | b'\t' | b'\r', Place::Word) => self.end_word()?,
-            (b' ' | b'\t' | b'\r', _) => {}
-            (b'"', _) => self.place = Place::Quoted,
-            (b'#', Place::Between) => self.place = Place::Comment,
-            (other, _) => self.keep(other, Place::Word)?,
-        }
-        Ok(())
-    }
-
-    /// A byte behind a backslash in quotes.
-    fn take_escaped(&mut self, byte: u8) -> Result<(), ScriptError> {
-        match byte {
-            b'"' | b'\\' => self.keep(byte, Place::Quoted),
-            b'x' => {
-                self.place = Place::FirstDigit;
-                Ok(())
-            }
-            _ => Err(ScriptError::Line(LineFault::UnknownEscape)),
-        }
-    }
-
-    /// The next byte of the line.
+    /// Takes the next byte of the line.
     fn take(&mut self, byte: u8) -> Result<(), ScriptError> {
-        let place = self.place;
-        match place {
-            Place::Between | Place::Word => self.take_bare(byte, place)?,
-            Place::Quoted => match byte {
-                b'"' => self.place = Place::Word,
-                b'\\' => self.place = Place::Escape,
-                _ => self.keep(byte, Place::Quoted)?,
-            },
-            Place::Escape => self.take_escaped(byte)?,
-            Place::FirstDigit => {
-                let high = hex_digit(byte).ok_or(LineFault::UnknownEscape)?;
-                self.place = Place::SecondDigit(high & 15);
+        match (self.place, byte) {
+            (Place::Comment, _) | (Place::Between, b' ' | b'\t' | b'\r') => {}
+            (Place::Word, b' ' | b'\t' | b'\r') => self.end_word()?,
+            (Place::Between, b'#') => self.place = Place::Comment,
+            (Place::Between | Place::Word, b'"') => self.place = Place::Quoted,
+            (Place::Between | Place::Word, _) => self.keep(byte, Place::Word)?,
+            (Place::Quoted, b'"') => self.place = Place::Word,
+            (Place::Quoted, b'\\') => self.place = Place::Escape,
+            (Place::Quoted, _) | (Place::Escape, b'"' | b'\\') => self.keep(byte, Place::Quoted)?,
+            (Place::Escape, b'x') => self.place = Place::FirstDigit,
+            (Place::FirstDigit, _) if hex_digit(byte).is_some() => {
+                self.place = Place::SecondDigit(byte);
             }
-            Place::SecondDigit(high) => {
-                let low = hex_digit(byte).ok_or(LineFault::UnknownEscape)?;
-                self.keep((high & 15) * 16 + (low & 15), Place::Quoted)?;
+            (Place::SecondDigit(high), _) => {
+                let escaped = pair(&[high, byte]).ok_or(LineFault::UnknownEscape)?;
+                self.keep(escaped, Place::Quoted)?;
             }
-            Place::Comment => {}
+            (Place::Escape | Place::FirstDigit, _) => return Err(LineFault::UnknownEscape.into()),
         }
         Ok(())
     }
@@ -104,16 +81,9 @@ impl Splitter {
         match self.place {
             Place::Between | Place::Comment => {}
             Place::Word => self.end_word()?,
-            _ => return Err(ScriptError::Line(LineFault::UnclosedQuote)),
+            _ => return Err(LineFault::UnclosedQuote.into()),
         }
-        let Splitter {
-            heap: _,
-            words,
-            word,
-            place: _,
-        } = self;
-        drop(word);
-        Ok(words)
+        Ok(self.words)
     }
 }
 

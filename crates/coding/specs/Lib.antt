@@ -1,2 +1,3 @@
 pub mod CaseFields
+pub mod Putting
 pub mod Decoding

@@ -1,15 +1,15 @@
 //! A case as a block: just the fields that the case holds, closed with the check.
 #![tactic(auto)]
 
-ghost use Rattle.std.specs.Prelude.{◌≡◌, ◌<◌, true, [], ◌∷◌, ◌++◌, length, MatchOption, ◌≢◌};
+ghost use Rattle.std.specs.Prelude.{◌≡◌, [], ◌∷◌, MatchOption, ◌≢◌};
 ghost use Rattle.std.specs.Option.{option_map};
-ghost use Rattle.tags.specs.Tags.{number_of, listed};
-ghost use Rattle.block.specs.Fields.{last_tag, fields_of};
-ghost use Rattle.block.specs.Writer.{written};
+ghost use Rattle.tags.specs.Tags.{number_of};
+ghost use Rattle.block.specs.Fields.{fields_of};
 ghost use Rattle.cases.specs.Cases.{CaseValue};
 ghost use Rattle.cases.specs.Fitness.{Fit};
 ghost use Rattle.cases.specs.Views.{name_view, subject_view, state_view, view};
 ghost use Rattle.coding.specs.CaseFields.{field, opening_fields, original_fields, state_fields, transaction_fields, case_block};
+ghost use Rattle.coding.specs.Putting.{Puts};
 ghost use Rattle.coding.specs.Decoding.{name_in, original_in, subject_in, state_in, case_in};
 
 use block::BLOCK;
@@ -19,23 +19,16 @@ use items::item;
 use tags::listing::Tag;
 use values::kind::Kind;
 
-/// Puts a field that is listed and whose tag rises.
+/// Puts a field, where it may stand.
 fn put(writer: &mut BlockWriter<'_>, tag: Tag, value: &[u8])
-    requires rises { last_tag 0 (written writer.old) < number_of tag }
-    requires listed { listed (number_of tag) (length value.now) ≡ true }
-    ensures fields { written writer.new ≡ written writer.old ++ field (number_of tag) value.now ∷ [] }
-    ensures last { last_tag 0 (written writer.new) ≡ number_of tag }
-    ensures named { writer.new.block.ghost_name ≡ writer.old.block.ghost_name }
+    ensures { Puts writer.old (field (number_of tag) value.now ∷ []) writer.new }
 {
     let _ = writer.put(tag.number(), value);
 }
 
 /// Puts what a case is opened with: its kind, its identifier and its parties.
 fn put_opening(writer: &mut BlockWriter<'_>, case: &Case)
-    requires last { last_tag 0 (written writer.old) < 1 }
-    ensures fields { written writer.new ≡ written writer.old ++ opening_fields (view case.now) }
-    ensures last { last_tag 0 (written writer.new) < 7 }
-    ensures named { writer.new.block.ghost_name ≡ writer.old.block.ghost_name }
+    ensures { Puts writer.old (opening_fields (view case.now)) writer.new }
 {
     put(writer, Tag::Kind, &[case.subject.number()]);
     put(writer, Tag::Identifier, &case.name.identifier.bytes);
@@ -45,10 +38,7 @@ fn put_opening(writer: &mut BlockWriter<'_>, case: &Case)
 
 /// Puts the original, which a recall has.
 fn put_original(writer: &mut BlockWriter<'_>, subject: &Subject)
-    requires last { last_tag 0 (written writer.old) < 7 }
-    ensures fields { written writer.new ≡ written writer.old ++ original_fields (subject_view subject.now) }
-    ensures last { last_tag 0 (written writer.new) < 12 }
-    ensures named { writer.new.block.ghost_name ≡ writer.old.block.ghost_name }
+    ensures { Puts writer.old (original_fields (subject_view subject.now)) writer.new }
 {
     if let Subject::Recall(original) = *subject {
         put(writer, Tag::OriginalKind, &[original.kind.number()]);
@@ -58,10 +48,7 @@ fn put_original(writer: &mut BlockWriter<'_>, subject: &Subject)
 
 /// Puts the state, and the closing identifier, which a closed case has.
 fn put_state(writer: &mut BlockWriter<'_>, state: &State)
-    requires last { last_tag 0 (written writer.old) < 12 }
-    ensures fields { written writer.new ≡ written writer.old ++ state_fields (state_view state.now) }
-    ensures last { last_tag 0 (written writer.new) < 16 }
-    ensures named { writer.new.block.ghost_name ≡ writer.old.block.ghost_name }
+    ensures { Puts writer.old (state_fields (state_view state.now)) writer.new }
 {
     put(writer, Tag::State, &[state.number()]);
     if let Some(closing) = state.closing() {
@@ -71,9 +58,7 @@ fn put_state(writer: &mut BlockWriter<'_>, state: &State)
 
 /// Puts what the transaction of the case says: its reference, its end-to-end identification and its amount.
 fn put_transaction(writer: &mut BlockWriter<'_>, case: &Case)
-    requires last { last_tag 0 (written writer.old) < 16 }
-    ensures fields { written writer.new ≡ written writer.old ++ transaction_fields (view case.now) }
-    ensures named { writer.new.block.ghost_name ≡ writer.old.block.ghost_name }
+    ensures { Puts writer.old (transaction_fields (view case.now)) writer.new }
 {
     put(writer, Tag::Uetr, &case.name.uetr.bytes);
     put(writer, Tag::EndToEnd, case.end_to_end.bytes());

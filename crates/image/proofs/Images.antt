@@ -1,11 +1,9 @@
 -- The blocks of an image: those of its cases, then blocks of zeros.
-use Rattle.std.proofs.Common.{◌≡◌, ℕ, zero, suc, ◌+◌, ◌-◌, ◌*◌, ◌/◌, ◌%◌, ◌<◌, ◌≤◌, Bool, true, false, not, cond, ◌&&◌, eqb, ltb, List, [], ◌∷◌, ◌++◌, map, length, get_or, take, replicate, Some, None, unwrap_or, sym, refl, ap, ◌∙◌, ⊎_elim, arith}
-use Rattle.std.specs.List.{slice_get, flat_map, All, position, position_or_len}
-use Rattle.std.specs.Option.{option_map}
+use Rattle.std.proofs.Common.{◌≡◌, ℕ, zero, suc, ◌+◌, ◌-◌, ◌*◌, ◌/◌, ◌%◌, ◌<◌, ◌≤◌, true, ◌&&◌, eqb, List, [], ◌++◌, map, length, get_or, take, replicate, Some, None, unwrap_or, sym, refl, ap, ◌∙◌, ⊎_elim, arith}
+use Rattle.std.specs.List.{slice_get, flat_map, All, position}
 use Rattle.std.specs.Simd.{first_chunks}
 use Rattle.std.proofs.Math.Path.{ap₂}
-use Rattle.std.proofs.lemmas.Bool.{and_parts, and_from, eqb-true, eq-eqb, lt-ltb, cond-true, cases_lt}
-use Rattle.std.proofs.lemmas.Bool.Decides.{nat_tests}
+use Rattle.std.proofs.lemmas.Bool.{and_parts, and_from, eqb-true, eq-eqb, cases_lt}
 use Rattle.std.proofs.lemmas.Option.{slice_get-get_or}
 use Rattle.std.proofs.lemmas.List.{length-append, length-map, length-replicate, replicate-append-replicate, take_at, get_or_append_left, get_or-append_right, get_or-map, get_or-replicate}
 use Rattle.std.proofs.lemmas.List.Elements.{All-nil, All-weaker, All-append, All-map, All-replicate, recursion_from_All}
@@ -14,31 +12,17 @@ use Rattle.std.proofs.lemmas.Grind.{flat_map-append}
 use Rattle.std.proofs.lemmas.Simd.{map-map}
 use Rattle.block.specs.Fields.{fields_of, value_of}
 use Rattle.block.proofs.Scanning.{fields_of-end}
-use Rattle.items.specs.Items.{identifier_in}
-use Rattle.table.specs.Lists.{place}
-use Rattle.table.proofs.Bridges.{place_map, place_same}
+use Rattle.table.proofs.Bridges.{place_position, place_map, place_same}
 use Rattle.cases.specs.Cases.{NameValue, CaseValue}
 use Rattle.cases.specs.Vacant.{vacant}
 use Rattle.cases.specs.Fitness.{Fit}
 use Rattle.books.specs.Books.{has_name, place_of, names, Apart, fit_capacity}
 use Rattle.coding.specs.CaseFields.{case_fields, case_block}
-use Rattle.coding.specs.Decoding.{formed_identifier_in, name_in, case_in}
+use Rattle.coding.specs.Decoding.{case_in}
 use Rattle.coding.proofs.Finding.{uetr_value, identifier_value}
 use Rattle.coding.proofs.CaseBlocks.{length-case_block, fields-case_block, case_block_again}
 use Rattle.image.specs.Image.{fit_length, image, ImageOf, held, cases_in, is_value, named}
 use Rattle.image.proofs.Chunks.{joined, length-chunks, take-chunks, chunks-joined, length-joined, joined-chunks}
-
-suc_position : (p n : ℕ) → option_map suc (cond (ltb p n) (Some p) None) ≡ cond (ltb (1 + p) (suc n)) (Some (1 + p)) None
-suc_position p n = grind (arith, nat_tests)
-
--- the place of the first element that passes is its position
-pub place_position : {X : Type 0} (test : X → Bool) (xs : List X) → place test xs ≡ position test xs
-place_position test [] = refl
-place_position test (x ∷ xs) = go (test x) (place_position test xs)
-  where
-    go : (b : Bool) → place test xs ≡ position test xs → cond b (Some 0) (option_map suc (place test xs)) ≡ cond (ltb (cond (not b) (1 + position_or_len test xs) 0) (suc (length xs))) (Some (cond (not b) (1 + position_or_len test xs) 0)) None
-    go true e = sym (cond-true _ _ _ (lt-ltb 0 (suc (length xs)) (omega arith)))
-    go false e = ap (option_map suc) e ∙ suc_position (position_or_len test xs) (length xs)
 
 -- One block.
 

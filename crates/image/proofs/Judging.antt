@@ -2,8 +2,10 @@
 use Rattle.std.proofs.Common.{◌≡◌, ℕ, zero, suc, ◌+◌, ◌-◌, ◌*◌, ◌/◌, ◌<◌, ◌≤◌, true, false, eqb, List, [], ◌∷◌, ◌++◌, map, length, get_or, take, drop, replicate, is_some, Some, None, sym, refl, ap, ◌∙◌, subst, ⊎_elim, arith}
 use Rattle.std.specs.List.{position, slice_get, All, AllByRecursion}
 use Rattle.std.specs.Simd.{first_chunks}
+use Rattle.std.proofs.Math.Path.{ap₂}
 use Rattle.std.proofs.lemmas.List.{length-map, length-drop, take-append-drop, take_more, take-append-le, take-map, map_push, drop_at, drop-drop, drop-replicate}
 use Rattle.std.proofs.lemmas.List.Elements.{All-head, All-tail, All-push, All-take, All-drop, All-same}
+use Rattle.std.proofs.lemmas.List.Folds.{list_all-append}
 use Rattle.std.proofs.lemmas.Option.{slice_get-get_or}
 use Rattle.std.proofs.lemmas.Bool.{and_parts, eqb-true, cases_lt, true≢false}
 use Rattle.table.proofs.Bridges.{place_none}
@@ -23,20 +25,17 @@ zeros_blank : (n : ℕ) → all_zero (replicate n 0) ≡ true
 zeros_blank zero = refl
 zeros_blank (suc n) = zeros_blank n
 
--- zeros in front, and zeros behind them
-zeros_split : (xs ys : List ℕ) → all_zero (xs ++ ys) ≡ true → (xs ≡ replicate (length xs) 0) × (all_zero ys ≡ true)
-zeros_split [] ys e = (refl, e)
-zeros_split (x ∷ xs) ys e =
-    let p = and_parts (eqb x 0) (all_zero (xs ++ ys)) e in
-    let r = zeros_split xs ys p.1 in
-    (ap (λ y. y ∷ xs) (eqb-true x 0 p.0) ∙ ap (λ l. 0 ∷ l) r.0, r.1)
+-- bytes that all pass as zero are zeros
+zeros_only : (xs : List ℕ) → all_zero xs ≡ true → xs ≡ replicate (length xs) 0
+zeros_only [] e = refl
+zeros_only (x ∷ xs) e = let p = and_parts (eqb x 0) (all_zero xs) e in ap₂ (λ y ys. y ∷ ys) (eqb-true x 0 p.0) (zeros_only xs p.1)
 
 blank_blocks : (bs : List (List ℕ)) → All (λ b. length b ≡ 512) bs → all_zero (joined bs) ≡ true → bs ≡ replicate (length bs) blank
 blank_blocks [] a e = refl
 blank_blocks (b ∷ bs) a e =
     let P : List ℕ → Type 0 = λ c. length c ≡ 512 in
-    let p = zeros_split b (joined bs) e in
-    ap (λ c. c ∷ bs) (p.0 ∙ ap (λ k. replicate k 0) (All-head P b bs a) ∙ blank-zeros) ∙ ap (λ r. blank ∷ r) (blank_blocks bs (All-tail P b bs a) p.1)
+    let p = and_parts (all_zero b) (all_zero (joined bs)) (sym (list_all-append (λ x. eqb x 0) b (joined bs)) ∙ e) in
+    ap (λ c. c ∷ bs) (zeros_only b p.0 ∙ ap (λ k. replicate k 0) (All-head P b bs a) ∙ blank-zeros) ∙ ap (λ r. blank ∷ r) (blank_blocks bs (All-tail P b bs a) p.1)
 
 -- The first so many blocks are those of fit cases with names that are apart.
 

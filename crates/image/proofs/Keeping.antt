@@ -1,12 +1,12 @@
 -- Bytes that are the image of cases stay the image of the cases that opening and changing leave.
-use Rattle.std.proofs.Common.{◌≡◌, ℕ, zero, suc, ◌+◌, ◌-◌, ◌*◌, ◌/◌, ◌<◌, false, List, [], ◌∷◌, ◌++◌, map, length, take, drop, set, replicate, is_some, Some, sym, refl, ap, ◌∙◌, subst, arith}
+use Rattle.std.proofs.Common.{◌≡◌, ℕ, suc, ◌+◌, ◌-◌, ◌*◌, ◌/◌, ◌<◌, false, List, [], ◌∷◌, ◌++◌, map, length, take, drop, set, replicate, is_some, Some, sym, refl, ap, ◌∙◌, subst, add-one, arith}
 use Rattle.std.specs.List.{slice_get, All}
 use Rattle.std.specs.Simd.{first_chunks}
-use Rattle.std.proofs.lemmas.List.{append_assoc, length-map, length-set, length_push, map-set, map_push, set_at, set-append_left}
+use Rattle.std.proofs.lemmas.List.{append_assoc, length-map, length-set, length_push, map-set, map_push, set_at, set_split, set-append_left}
 use Rattle.std.proofs.lemmas.List.Elements.{All-set, All-push, All-same}
 use Rattle.std.proofs.lemmas.Option.{slice_get_within}
 use Rattle.table.specs.Lists.{alter_at}
-use Rattle.table.proofs.Bridges.{map-alter}
+use Rattle.table.proofs.Bridges.{alter_split, map-alter}
 use Rattle.cases.specs.Cases.{StateValue, CaseValue, with_state}
 use Rattle.cases.specs.Fitness.{Fit}
 use Rattle.books.specs.Books.{place_of, changed, names, Apart}
@@ -19,9 +19,7 @@ use Rattle.image.proofs.Images.{blank, image_blocks, whole_image, image_from_blo
 
 -- altering what stands at a place sets it there
 alter_set : {X : Type 0} (f : X → X) (xs : List X) (i : ℕ) (x : X) → slice_get xs i ≡ Some x → alter_at i f xs ≡ set xs i (f x)
-alter_set f [] i x e = refl
-alter_set f (y ∷ xs) zero x e = let same : y ≡ x = cc in ap (λ z. f z ∷ xs) same
-alter_set f (y ∷ xs) (suc i) x e = ap (λ r. y ∷ r) (alter_set f xs i x e)
+alter_set f xs i x e = alter_split f xs i x e ∙ rw add-one (sym (set_split xs i (f x) (slice_get_within xs i x e)))
 
 -- one more case
 pub blocks-opened : (n : ℕ) (cs : List CaseValue) (d : CaseValue) → length cs < n → set (image_blocks n cs) (length cs) (case_block d) ≡ image_blocks n (cs ++ d ∷ [])

@@ -6,6 +6,7 @@ ghost use Rattle.image.specs.Books.{save_answer};
 use crate::blocks::write_at;
 use block::BLOCK;
 use books::book::CaseBook;
+use books::iter::Cases;
 use books::refusal::BookRefusal;
 
 /// Writes the image of a book into lent bytes, which have to be as many blocks as the book has room for.
@@ -18,11 +19,8 @@ pub fn save<B: CaseBook>(book: &B, bytes: &mut [u8]) -> Result<(), BookRefusal>
         return Err(BookRefusal::NoBook);
     }
     bytes.fill(0);
-    // A book gives its cases by their places, and the place of a case is that of its block.
-    for at in 0..book.count() {
-        if let Some(case) = book.case_at(at) {
-            write_at(bytes, at, &case);
-        }
+    for (at, case) in Cases::of(book).enumerate() {
+        write_at(bytes, at, &case);
     }
     Ok(())
 }

@@ -7,7 +7,7 @@ ghost use Rattle.std.specs.Prelude.{◌≡◌, ◌&&◌, length, Decides, ◌==�
 ghost use Rattle.octets.specs.Bytes.{same_bytes, every, kept};
 ghost use Rattle.octets.specs.Alphabet.{admitted};
 
-/// Whether two byte strings are equal. Every comparison of bytes goes through this function.
+/// Whether two byte strings are equal.
 pub fn same_bytes(a: &[u8], b: &[u8]) -> bool
     ensures value { result ≡ same_bytes a.now b.now }
     ensures equal { Decides result (a.now ≡ b.now) }

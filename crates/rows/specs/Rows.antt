@@ -1,6 +1,6 @@
 -- What a book of rows means.
 use Rattle.std.specs.Prelude.{◌≡◌, ℕ, true, List, map}
-use Rattle.table.specs.Meaning.{rows_of, limit_of}
+use Rattle.table.specs.Meaning.{limit_of}
 use Rattle.table.proofs.Bridges.{rows_within}
 use Rattle.cases.specs.Cases.{CaseValue}
 use Rattle.cases.specs.Views.{view}
@@ -9,7 +9,7 @@ use Rattle.rows.specs.declared.RowsBook.{RowsBook}
 
 -- its cases are those of the rows that stand
 abbrev pub cases_of : RowsBook → List CaseValue
-cases_of b = map view (rows_of b.table)
+cases_of b = map view b.table.rows
 
 -- its room is the limit of its table
 abbrev pub room_of : RowsBook → ℕ

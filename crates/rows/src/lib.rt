@@ -22,7 +22,7 @@ impl<'a> RowsBook<'a> {
     pub fn over(rows: &'a mut [Case]) -> Result<RowsBook<'a>, BookRefusal>
         ensures { MatchResult result (λ b. Sound b × (cases_of b ≡ []) × (room_of b ≡ length rows.old)) (λ e. (e ≡ NoBook) × (fit_capacity (length rows.old) ≡ false)) }
     {
-        if rows.len() < 1 || rows.len() > MOST {
+        if !(1..=MOST).contains(&rows.len()) {
             return Err(BookRefusal::NoBook);
         }
         Ok(RowsBook {
@@ -52,10 +52,12 @@ impl<'a> CaseBook for RowsBook<'a> {
         self.table.row_at(at)
     }
 
+    #[tactic(auto, using(crate::proofs::Seen::by_name))]
     fn find(&self, name: &CaseName) -> Option<usize> {
         self.table.find(name)
     }
 
+    #[tactic(auto, using(crate::proofs::Seen::by_name))]
     fn open(&mut self, case: Case) -> Result<(), BookRefusal> {
         if self.table.holds(&case.name) {
             return Err(BookRefusal::Stands);
@@ -64,17 +66,12 @@ impl<'a> CaseBook for RowsBook<'a> {
             state: State::Open,
             ..case
         };
-        match self.table.add(opened) {
-            Ok(()) => Ok(()),
-            Err(_) => Err(BookRefusal::Full),
-        }
+        Ok(self.table.add(opened)?)
     }
 
+    #[tactic(auto, using(crate::proofs::Seen::at_a_place))]
     fn change(&mut self, at: usize, state: State) -> Result<(), BookRefusal> {
-        let Some(case) = self.table.row_at(at) else {
-            return Err(BookRefusal::NoPlace);
-        };
-        let _ = self.table.replace(at, Case { state, ..case });
-        Ok(())
+        let case = self.table.row_at(at).ok_or(BookRefusal::NoPlace)?;
+        Ok(self.table.replace(at, Case { state, ..case })?)
     }
 }

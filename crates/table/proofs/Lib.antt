@@ -1,2 +1,1 @@
 pub mod Bridges
-pub mod Adding

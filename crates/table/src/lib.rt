@@ -31,8 +31,8 @@ pub enum TableRefusal {
     Full,
 }
 
-/// Rows in lent memory: the first `count` of them are those that were added. Clauses see the rows that stand, and how many more
-/// there is room for.
+/// Rows in lent memory: the first `count` of them are those that were added. The memory is lent, so the count stands beside it.
+/// Clauses see the rows that stand, and how many more there is room for.
 #[derive(Drop)]
 pub struct Table<'a, R> {
     rows: &'a mut [R],

@@ -50,6 +50,7 @@ pub struct Rule {
 }
 
 /// The rules, each at its tag's number.
+// The rows are written out: a constant can't call a function that makes a row.
 const RULES: [Option<Rule>; 23] = [
     None,
     Some(Rule {

@@ -8,6 +8,7 @@ use octets::readable::Readable;
 /// A text of 1 to `W` printable ASCII characters. The bytes behind it are zeros, so that equal texts are equal values.
 #[derive(Clone, Copy, PartialEq, Eq)]
 pub struct PrintedText<const W: usize> {
+    // An array with a length: there is no heap below the program, and a text can be copied.
     bytes: [u8; W],
     len: usize,
     ghost formed: { (len ≤ W) × (printed W (take len bytes) ≡ true) × (bytes ≡ padded W (take len bytes)) },

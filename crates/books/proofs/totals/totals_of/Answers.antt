@@ -1,10 +1,10 @@
-use Rattle.std.proofs.Common.{map, rules, sym, ap, ◌∙◌, subst, arith}
-use Rattle.std.proofs.lemmas.List.{length-map, map_push}
+use Rattle.std.proofs.Common.{map, sym, ap, ◌∙◌, subst, arith}
+use Rattle.std.proofs.lemmas.List.{length-map}
 use Rattle.std.proofs.lemmas.Iterator.Consumers.{YieldsList-from_first, YieldsList-turn}
-use Rattle.cases.specs.Views.{view, state_view}
+use Rattle.cases.specs.Views.{view}
 use Rattle.books.specs.Rest.{rest_of}
-use Rattle.books.specs.Totals.{counted, totals_of, Below}
-use Rattle.books.proofs.Counting.{totals-push, totals_below}
+use Rattle.books.specs.Totals.{Below}
+use Rattle.books.proofs.Counting.{totals_below}
 use Rattle.books.proofs.Steps.{few}
 use Rattle.books.proofs.totals.totals_of.Goals as goal
 
@@ -17,15 +17,3 @@ count-requires g c =
     let all = YieldsList-from_first view (rest_of g.B.CaseBook.cases) cs (ap (rest_of g.B.CaseBook.cases) c.into_iter-case-iterator.ensures.into_iter_gives ∙ c.of-case-items.ensures.cases) in
     let turn = YieldsList-turn all so_far c.loop-case.case-iterator c.loop-case.yielded_by c.next.result c.next.new.self c.in-Some.case c.in-Some.is c.next.ensures.steps in
     subst (Below 4096) (sym c.loop-case.invariant.counted) (totals_below (map view so_far) 4096 (simp length-map (omega (arith, turn.0))))
-
-pub loop-case-preserved : goal.loop-case-preserved
-loop-case-preserved g c =
-    record {
-      can = search rules;
-      finite = tt;
-      counted =
-          c.count.ensures
-          ∙ ap (counted (state_view c.in-Some.case.state)) c.loop-case.invariant.counted
-          ∙ totals-push (map view c.loop-case.yielded) (view c.in-Some.case)
-          ∙ ap totals_of (sym (map_push view c.loop-case.yielded c.in-Some.case));
-    }

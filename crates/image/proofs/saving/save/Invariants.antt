@@ -1,4 +1,4 @@
-use Rattle.std.proofs.Common.{◌≡◌, take}
+use Rattle.std.proofs.Common.{◌≡◌, length, take}
 use Rattle.std.specs.Simd.{first_chunks}
 use Rattle.image.proofs.Images.{image_blocks}
 use Rattle.image.proofs.saving.save.Given as goal
@@ -7,4 +7,4 @@ use Rattle.image.proofs.saving.save.Given as goal
 abbrev pub invariant-loop-at : goal.invariant-loop-at
 invariant-loop-at g l =
     let room = g.B.CaseBook.room l.book in
-    first_chunks 512 room l.bytes ≡ image_blocks room (take l.at (g.B.CaseBook.cases l.book))
+    first_chunks 512 room l.bytes ≡ image_blocks room (take (length l.yielded) (g.B.CaseBook.cases l.book))

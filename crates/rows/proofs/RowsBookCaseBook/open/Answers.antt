@@ -1,54 +1,35 @@
-use Rattle.std.proofs.Common.{◌≡◌, true, false, ltb, [], ◌∷◌, ◌++◌, map, length, is_some, is_ok, sym, refl, ap, ◌∙◌, subst}
-use Rattle.std.proofs.lemmas.Bool.{cond-true, cond-false}
+use Rattle.std.proofs.Common.{◌≡◌, false, [], ◌∷◌, ◌++◌, map, length, is_some, is_ok, sym, ap, arith, ◌∙◌}
+use Rattle.std.proofs.lemmas.Bool.{cond-true}
 use Rattle.std.proofs.lemmas.List.{map_push, length-map}
-use Rattle.table.specs.Meaning.{rows_of, limit_of}
-use Rattle.table.proofs.Bridges.{any-map, any_place}
-use Rattle.table.proofs.Adding.{add_done, add_refused}
+use Rattle.std.proofs.lemmas.Result.{err_from_is_err_and}
 use Rattle.cases.specs.Views.{view}
-use Rattle.books.specs.Books.{as_opened, names, has_name, place_of, stands, Apart, fit_capacity}
-use Rattle.books.proofs.Naming.{apart-push, names-push, names_differ}
+use Rattle.books.specs.Books.{stands, place_of, as_opened}
+use Rattle.rows.specs.declared.RowsBook.{RowsBook}
+use Rattle.rows.specs.Rows.{cases_of, room_of}
+use Rattle.rows.proofs.Seen.{by_name, answers_ok, answers_err, sound_more}
 use Rattle.rows.proofs.RowsBookCaseBook.open.Goals as goal
 
-pub returns-then-holds : goal.returns-then-holds
-returns-then-holds c =
-    let n = (view c.args.case).name in
-    let rows = rows_of c.args.self.now.table in
-    let hit : stands n (map view rows) ≡ true = any-map view (has_name n) rows ∙ sym c.holds.ensures ∙ c.if-holds.true in
-    record { sound = c.requires; room = refl; answer = sym (cond-true _ _ _ hit); cases = refl }
-
-pub returns-in-Ok : goal.returns-in-Ok
-returns-in-Ok c =
+pub returns-in_err-add-clause-answer : goal.returns-in_err-add-clause-answer
+returns-in_err-add-clause-answer c =
+    let book = c.args.self.now in
     let case = view c.args.case in
-    let n = case.name in
-    let t = c.args.self.now.table in
-    let rows = rows_of t in
-    let cs = map view rows in
-    let missed : stands n cs ≡ false = any-map view (has_name n) rows ∙ sym c.holds.ensures ∙ c.if-holds.false in
-    let lost : is_some (place_of n cs) ≡ false = sym (any_place (has_name n) cs) ∙ missed in
-    let pushed : map view (rows_of c.add.new.self) ≡ cs ++ as_opened case ∷ [] = ap (map view) (c.add.ensures.rows ∙ cond-true _ _ _ (ap is_ok c.in-Ok.is)) ∙ map_push view rows _ in
-    let within : ltb (length cs) (limit_of t) ≡ true = ap (λ k. ltb k (limit_of t)) (length-map rows view) ∙ add_done _ _ (sym c.add.ensures.answer ∙ c.in-Ok.is) in
-    record {
-      sound = record {
-        apart = subst Apart (sym (ap names pushed ∙ names-push cs (as_opened case))) (apart-push (names cs) n c.requires.apart (names_differ n cs lost));
-        fit = ap fit_capacity c.add.ensures.limit ∙ c.requires.fit;
-      };
-      room = c.add.ensures.limit;
-      answer = sym (cond-false _ _ _ missed ∙ cond-true _ _ _ within);
-      cases = pushed;
-    }
+    let missed : stands case.name (cases_of book) ≡ false = grind (arith, by_name) in
+    let p = err_from_is_err_and c.from_residual.result c.from_residual.ensures.1 in
+    rw (p.1, p.2) (sym (answers_err (room_of book) (cases_of book) case missed (length book.table.rows) (length-map book.table.rows view) c.in_err-add.field-0.0 (sym c.add.ensures.answer ∙ c.in_err-add.was)))
 
-pub returns-in-Err : goal.returns-in-Err
-returns-in-Err c =
-    let n = (view c.args.case).name in
-    let t = c.args.self.now.table in
-    let rows = rows_of t in
-    let cs = map view rows in
-    let missed : stands n cs ≡ false = any-map view (has_name n) rows ∙ sym c.holds.ensures ∙ c.if-holds.false in
-    let kept : map view (rows_of c.add.new.self) ≡ cs = ap (map view) (c.add.ensures.rows ∙ cond-false _ _ _ (ap is_ok c.in-Err.is)) in
-    let full : ltb (length cs) (limit_of t) ≡ false = ap (λ k. ltb k (limit_of t)) (length-map rows view) ∙ add_refused _ _ _ (sym c.add.ensures.answer ∙ c.in-Err.is) in
-    record {
-      sound = record { apart = subst Apart (sym (ap names kept)) c.requires.apart; fit = ap fit_capacity c.add.ensures.limit ∙ c.requires.fit };
-      room = c.add.ensures.limit;
-      answer = sym (cond-false _ _ _ missed ∙ cond-false _ _ _ full);
-      cases = kept;
-    }
+pub returns-clause-sound : goal.returns-clause-sound
+returns-clause-sound c =
+    let before = cases_of c.args.self.now in
+    let case = as_opened (view c.args.case) in
+    let after : RowsBook = record { table = c.add.new.self } in
+    let lost : is_some (place_of case.name before) ≡ false = grind (arith, by_name) in
+    let done : cases_of after ≡ before ++ case ∷ [] =
+    ap (map view) (c.add.ensures.rows ∙ cond-true _ _ _ (ap is_ok c.in_ok-add.was)) ∙ map_push view c.args.self.now.table.rows _ in
+    sound_more c.args.self.now after c.requires c.add.ensures.limit case done lost
+
+pub returns-clause-answer : goal.returns-clause-answer
+returns-clause-answer c =
+    let book = c.args.self.now in
+    let case = view c.args.case in
+    let missed : stands case.name (cases_of book) ≡ false = grind (arith, by_name) in
+    sym (answers_ok (room_of book) (cases_of book) case missed (length book.table.rows) (length-map book.table.rows view) (sym c.add.ensures.answer ∙ c.in_ok-add.was))
