@@ -16,6 +16,7 @@ mod message_trials;
 mod value_trials;
 
 /// How many examples are shown of the definitions: every row of the table is right.
+#[tactic(auto, unfolding(block::specs::Block::check, block::specs::Block::padded, dates::specs::Dates::day_before, dates::specs::Dates::month_length, dates::specs::Dates::real_date, dates::specs::Dates::read_date, values::specs::Identifiers::identifier, crate::specs::Examples::last_of_the_body))]
 pub fn shown_examples() -> usize
     ensures all { AllHold examples }
     ensures count { result ≡ length examples }

@@ -6,13 +6,14 @@ use block::writer::BlockWriter;
 use content::decode::decode;
 use message::read::{ReadMessage, read};
 use message::refusal::Layer;
-use std::alloc::Global;
+use std::alloc::AllocGlobal;
 use std::process::Abort;
 use std::test::*;
 use values::kind::Kind;
 use values::kind::Kind::{Recall, Reply, Report, Request};
 
-/// What sets a message apart from a correct one. The first number is that of the block.
+/// What sets a message apart from a correct one. The first number is that of the block. A tag is given by its number, as it
+/// stands in a block, and as the refusals name it in the tables below: its name there would be no plainer.
 #[derive(Clone, Copy)]
 enum Change {
     /// The field with this tag is left out.
@@ -148,8 +149,8 @@ impl Message<'_> {
     }
 
     /// What comes of reading it.
-    fn outcome(&self, rt: &impl Abort, heap: Global) -> Result<Outcome, Fail> {
-        let mut bytes = Vec::new(heap);
+    fn outcome(&self, rt: &(impl Abort + AllocGlobal)) -> Result<Outcome, Fail> {
+        let mut bytes = Vec::new(rt.alloc());
         for number in 0..self.blocks {
             bytes.extend_from_slice(&self.block(rt, number)?)?;
         }
@@ -218,20 +219,20 @@ fn correct_messages(rt: HostRuntime) -> Result<(), Fail> {
                 blocks,
                 changes: &[],
             };
-            assert_eq!(rt; message.outcome(&rt, rt.alloc())?, expected);
+            assert_eq!(rt; message.outcome(&rt)?, expected);
         }
     }
     Ok(())
 }
 
 /// What comes of the longest message of a kind with one change.
-fn changed(rt: &impl Abort, heap: Global, kind: Kind, change: Change) -> Result<Outcome, Fail> {
+fn changed(rt: &(impl Abort + AllocGlobal), kind: Kind, change: Change) -> Result<Outcome, Fail> {
     let message = Message {
         kind,
         blocks: 17,
         changes: &[change],
     };
-    message.outcome(rt, heap)
+    message.outcome(rt)
 }
 
 /// A tag is left out where it must stand, or put where it need not.
@@ -255,7 +256,7 @@ fn tags(rt: HostRuntime) -> Result<(), Fail> {
                 } else {
                     Err((4, block, u16::from(tag)))
                 };
-                assert_eq!(rt; changed(&rt, rt.alloc(), kind, change)?, expected);
+                assert_eq!(rt; changed(&rt, kind, change)?, expected);
             }
         }
     }
@@ -309,7 +310,7 @@ fn unfit_values(rt: HostRuntime) -> Result<(), Fail> {
             if (block == 0) == (*tag < 14) {
                 let change = Put(usize::from(block), *tag, *value);
                 assert_eq!(rt;
-                    changed(&rt, rt.alloc(), *kind, change)?,
+                    changed(&rt, *kind, change)?,
                     Err((5, block, u16::from(*tag)))
                 );
             }
@@ -495,7 +496,7 @@ const FIELD_FAULTS: [Case; 29] = [
 ];
 
 /// Reads the messages of a table.
-fn try_all(rt: &impl Abort, heap: Global, cases: &[Case]) -> Result<(), Fail> {
+fn try_all(rt: &(impl Abort + AllocGlobal), cases: &[Case]) -> Result<(), Fail> {
     for (row, case) in cases.iter().enumerate() {
         let Case(kind, blocks, changes, expected) = *case;
         let message = Message {
@@ -503,14 +504,14 @@ fn try_all(rt: &impl Abort, heap: Global, cases: &[Case]) -> Result<(), Fail> {
             blocks,
             changes,
         };
-        assert_eq!(rt; message.outcome(rt, heap)?, expected, "row {row}");
+        assert_eq!(rt; message.outcome(rt)?, expected, "row {row}");
     }
     Ok(())
 }
 
 #[test]
 fn tables(rt: HostRuntime) -> Result<(), Fail> {
-    try_all(&rt, rt.alloc(), &READ)?;
-    try_all(&rt, rt.alloc(), &BLOCK_FAULTS)?;
-    try_all(&rt, rt.alloc(), &FIELD_FAULTS)
+    try_all(&rt, &READ)?;
+    try_all(&rt, &BLOCK_FAULTS)?;
+    try_all(&rt, &FIELD_FAULTS)
 }
