@@ -2,6 +2,7 @@
 use crate::assigning::{Assigned, assignment};
 use crate::faults::{LineFault, ScriptError, Wanted};
 use crate::hex::{number, push_bytes, sixteen_bytes};
+use crate::words::split;
 use cases::case::{Case, CaseName, Original, OriginalKind, State, Subject};
 use octets::readable::Readable;
 use std::alloc::Global;
@@ -21,14 +22,22 @@ pub(crate) enum Command {
     Write,
     /// To read these bytes, or else the message.
     Read(Option<Vec<u8>>),
-    /// To set a byte of a block of the message to a value.
-    Spoil(u64, u64, u64),
+    /// To set a byte of the message.
+    Spoil(NewByte),
     /// To take all blocks from the message.
     Clear,
     New(NewBook),
     Mount(String),
     Save(String),
     Ask(Question),
+}
+
+/// The place of a byte in a block, and the value that it is to have.
+#[derive(Clone, Copy)]
+pub(crate) struct NewByte {
+    pub block: u64,
+    pub place: u64,
+    pub value: u64,
 }
 
 /// The form of a new book, and how many cases it is to have room for.
@@ -49,17 +58,17 @@ pub(crate) enum Question {
 }
 
 impl Command {
-    /// The command that a word names, with what the words behind it say.
-    pub(crate) fn read(
-        heap: Global,
-        word: &[u8],
-        rest: &[Vec<u8>],
-    ) -> Result<Command, ScriptError> {
-        let command = match word {
+    /// What the words of a line ask for, if there are words.
+    pub(crate) fn read(heap: Global, line: &[u8]) -> Result<Option<Command>, ScriptError> {
+        let words = split(heap, line)?;
+        let Some((word, rest)) = words.as_slice().split_first() else {
+            return Ok(None);
+        };
+        let command = match word.as_slice() {
             b"block" => Command::Block(assignments(heap, rest)?),
             b"write" => alone(rest, Command::Write)?,
             b"read" => Command::Read(given(heap, rest)?),
-            b"spoil" => spoil(rest)?,
+            b"spoil" => Command::Spoil(new_byte(rest)?),
             b"clear" => alone(rest, Command::Clear)?,
             b"new" => Command::New(new_book(rest)?),
             b"mount" => Command::Mount(file(heap, rest)?),
@@ -71,7 +80,7 @@ impl Command {
             b"totals" => Command::Ask(alone(rest, Question::Totals)?),
             _ => return Err(LineFault::UnknownCommand.into()),
         };
-        Ok(command)
+        Ok(Some(command))
     }
 }
 
@@ -104,13 +113,17 @@ fn given(heap: Global, words: &[Vec<u8>]) -> Result<Option<Vec<u8>>, ScriptError
     Ok(Some(bytes))
 }
 
-/// The block, the byte and the value that three numbers give.
-fn spoil(words: &[Vec<u8>]) -> Result<Command, Wanted> {
+/// The byte that three numbers say.
+fn new_byte(words: &[Vec<u8>]) -> Result<NewByte, Wanted> {
     let [block, place, value] = words else {
         return Err(Wanted::ThreeNumbers);
     };
     match (number(block), number(place), number(value)) {
-        (Some(block), Some(place), Some(value)) => Ok(Command::Spoil(block, place, value)),
+        (Some(block), Some(place), Some(value)) => Ok(NewByte {
+            block,
+            place,
+            value,
+        }),
         _ => Err(Wanted::ThreeNumbers),
     }
 }

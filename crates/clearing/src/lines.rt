@@ -1,5 +1,6 @@
 //! The lines of a script, one after the other.
-ghost use Rattle.std.specs.Prelude.{◌≡◌, ◌<◌, ◌≤◌, true, false, length, is_some};
+ghost use Rattle.std.specs.Prelude.{◌≡◌, ◌<◌, ◌≤◌, length, IsSome, IsNone};
+ghost use Rattle.std.specs.Iterator.{at_most};
 
 /// The lines that are left, the number of the last one taken, and how many made no sense.
 #[derive(Drop)]
@@ -28,11 +29,23 @@ impl<'a> Lines<'a> {
         }
     }
 
-    /// The next line, without its end.
-    pub(crate) fn next(&mut self) -> Option<&'a [u8]>
-        ensures shorter { is_some result ≡ true → length self.new.rest.now < length self.old.rest.now }
-        ensures at_end { is_some result ≡ false → self.new.rest.now ≡ self.old.rest.now }
+    /// Counts a line that makes no sense.
+    pub(crate) fn count_fault(&mut self)
+        ensures { self.new.rest.now ≡ self.old.rest.now }
     {
+        self.faults = self.faults.saturating_add(1);
+    }
+}
+
+/// The lines that are left, without their ends. Each line taken leaves fewer bytes.
+impl<'a> Iterator for Lines<'a> {
+    type Item = &'a [u8];
+
+    ghost next_gives = { λ s r t. (IsSome r → length t.rest.now < length s.rest.now) × (IsNone r → t.rest.now ≡ s.rest.now) };
+
+    ghost remaining = { λ s. at_most (length s.rest.now) };
+
+    fn next(&mut self) -> Option<&'a [u8]> {
         if self.rest.is_empty() {
             return None;
         }
@@ -43,12 +56,5 @@ impl<'a> Lines<'a> {
             [] => more,
         };
         Some(line)
-    }
-
-    /// Counts a line that makes no sense.
-    pub(crate) fn count_fault(&mut self)
-        ensures { self.new.rest.now ≡ self.old.rest.now }
-    {
-        self.faults = self.faults.saturating_add(1);
     }
 }

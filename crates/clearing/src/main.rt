@@ -31,7 +31,6 @@ use crate::lines::Lines;
 use crate::making::{Memory, make, mount};
 use crate::reading::show_read;
 use crate::session::Session;
-use crate::words::split;
 use anyhow::anyhow;
 use books::book::CaseBook;
 use image::book::ImageBook;
@@ -109,18 +108,15 @@ impl<'a> Script<'a> {
         ensures lines { self.new.lines ≡ self.old.lines }
     {
         let heap = self.rt.alloc();
-        let words = split(heap, line)?;
-        let Some((word, rest)) = words.as_slice().split_first() else {
+        let Some(command) = Command::read(heap, line)? else {
             return Ok(None);
         };
-        match Command::read(heap, word, rest)? {
+        match command {
             Command::Block(fields) => self.session.add_block(&fields, &mut self.out)?,
             Command::Write => self.session.write(&mut self.out)?,
             Command::Read(None) => self.session.read(&mut self.out)?,
             Command::Read(Some(bytes)) => show_read(&mut self.out, &bytes)?,
-            Command::Spoil(block, place, value) => self
-                .session
-                .spoil(block, place, value, &mut self.out)?,
+            Command::Spoil(byte) => self.session.spoil(byte, &mut self.out)?,
             Command::Clear => self.session.clear(&mut self.out)?,
             Command::New(book) => return Ok(make(heap, book, &mut self.out)?),
             Command::Mount(path) => return mount(self.rt, path, &mut self.out),

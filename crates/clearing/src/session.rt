@@ -4,6 +4,7 @@ ghost use Rattle.clearing.specs.Lines.{NothingDone};
 
 use crate::answers::Answers;
 use crate::assigning::{Assigned, composed};
+use crate::commands::NewByte;
 use crate::faults::{LineFault, ScriptError};
 use crate::reading::show_read;
 use crate::shown::Hex;
@@ -13,22 +14,13 @@ use std::alloc::{AllocError, Global};
 /// What a script has built up so far: the blocks of a message.
 #[derive(Drop)]
 pub(crate) struct Session {
-    message: Vec<u8>,
-}
-
-/// Where a byte of a block lies in a message.
-fn offset(block: u64, place: u64) -> Option<usize> {
-    let place = usize::try_from(place).ok().filter(|place| *place < BLOCK)?;
-    usize::try_from(block)
-        .ok()?
-        .checked_mul(BLOCK)?
-        .checked_add(place)
+    blocks: Vec<[u8; BLOCK]>,
 }
 
 impl Session {
     pub(crate) fn new(heap: Global) -> Session {
         Session {
-            message: Vec::new(heap),
+            blocks: Vec::new(heap),
         }
     }
 
@@ -42,8 +34,8 @@ impl Session {
         ensures out { NothingDone result out.old out.new }
     {
         let block = composed(fields)?;
-        let number = self.message.len() / BLOCK;
-        self.message.extend_from_slice(&block)?;
+        let number = self.blocks.len();
+        self.blocks.push(block)?;
         out.answer(
             format_args!("block: {number}"),
             "added to the message, closed with its check",
@@ -53,7 +45,7 @@ impl Session {
 
     /// Prints the blocks.
     pub(crate) fn write(&self, out: &mut Answers) -> Result<(), AllocError> {
-        for (number, block) in self.message.chunks_exact(BLOCK).enumerate() {
+        for (number, block) in self.blocks.iter().enumerate() {
             out.line(format_args!("write: {number} {}", Hex(block)))?;
         }
         out.explain("each block in hex: 510 bytes of fields and zeros, and two bytes of check")
@@ -61,22 +53,27 @@ impl Session {
 
     /// Prints what the message reads as.
     pub(crate) fn read(&self, out: &mut Answers) -> Result<(), AllocError> {
-        show_read(out, self.message.as_slice())
+        show_read(out, self.blocks.as_flattened())
     }
 
     /// Sets a byte of a block, if there is one, and leaves the check.
-    pub(crate) fn spoil(
-        &mut self,
-        block: u64,
-        place: u64,
-        value: u64,
-        out: &mut Answers,
-    ) -> Result<(), ScriptError>
+    pub(crate) fn spoil(&mut self, byte: NewByte, out: &mut Answers) -> Result<(), ScriptError>
         ensures session { NothingDone result self.old self.new }
         ensures out { NothingDone result out.old out.new }
     {
-        match (offset(block, place), u8::try_from(value)) {
-            (Some(at), Ok(byte)) if at < self.message.len() => self.message[at] = byte,
+        let NewByte {
+            block,
+            place,
+            value,
+        } = byte;
+        match (
+            usize::try_from(block),
+            usize::try_from(place),
+            u8::try_from(value),
+        ) {
+            (Ok(number), Ok(at), Ok(byte)) if number < self.blocks.len() && at < BLOCK => {
+                self.blocks[number][at] = byte;
+            }
             _ => return Err(LineFault::NoSuchByte.into()),
         }
         out.answer(
@@ -88,7 +85,7 @@ impl Session {
 
     /// Takes all blocks from it.
     pub(crate) fn clear(&mut self, out: &mut Answers) -> Result<(), AllocError> {
-        self.message.clear();
+        self.blocks.clear();
         out.answer("clear: 0", "the message has no block now")
     }
 }

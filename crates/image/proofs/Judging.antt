@@ -13,7 +13,7 @@ use Rattle.cases.specs.Cases.{NameValue, CaseValue, same_name}
 use Rattle.cases.specs.Vacant.{vacant}
 use Rattle.cases.specs.Fitness.{Fit}
 use Rattle.books.specs.Books.{has_name, place_of, names, Apart}
-use Rattle.books.proofs.Naming.{apart-push, names-push, names_differ}
+use Rattle.books.proofs.Naming.{apart_more}
 use Rattle.coding.specs.CaseFields.{case_block}
 use Rattle.image.specs.Image.{fit_length, all_zero, ImageOf, held, cases_in, named}
 use Rattle.image.proofs.Chunks.{joined, length-chunks, take-chunks, chunks_even}
@@ -59,7 +59,7 @@ judged_more bs at s h c f e q =
     let g : so_far bs (at + 1) ≡ cs ++ c ∷ [] = ap (map held) t ∙ map_push held (take at bs) (case_block c) ∙ ap (λ x. cs ++ x ∷ []) (held_again c f) in
     record {
       fit = All-same Fit (so_far bs (at + 1)) (cs ++ c ∷ []) g (All-push Fit cs c s.fit f);
-      apart = subst (λ (xs : List CaseValue). Apart (names xs)) (sym g) (subst Apart (sym (names-push cs c)) (apart-push (names cs) c.name s.apart (names_differ c.name cs q)));
+      apart = subst (λ (xs : List CaseValue). Apart (names xs)) (sym g) (apart_more cs c s.apart q);
       form = t ∙ ap (λ r. r ++ case_block c ∷ []) s.form ∙ sym (map_push case_block cs c) ∙ ap (map case_block) (sym g);
     }
 

@@ -10,7 +10,7 @@ use Rattle.table.proofs.Bridges.{alter_split, map-alter}
 use Rattle.cases.specs.Cases.{StateValue, CaseValue, with_state}
 use Rattle.cases.specs.Fitness.{Fit}
 use Rattle.books.specs.Books.{place_of, changed, names, Apart}
-use Rattle.books.proofs.Naming.{apart-push, names-push, names_differ}
+use Rattle.books.proofs.Naming.{apart_more}
 use Rattle.coding.specs.CaseFields.{case_block}
 use Rattle.coding.proofs.CaseBlocks.{length-case_block}
 use Rattle.image.specs.Image.{fit_length, ImageOf}
@@ -62,7 +62,7 @@ module _ (bytes : List ℕ) (cs : List CaseValue) (s : ImageOf bytes cs) (more :
   pub opened_image : (d : CaseValue) → Fit d → length cs < length bytes / 512 → is_some (place_of d.name cs) ≡ false → more ≡ with_block bytes (length cs) (case_block d) → ImageOf more (cs ++ d ∷ [])
   opened_image d f h q e =
       remade (length cs) d (cs ++ d ∷ []) f h e (All-push Fit cs d s.fit f)
-      (subst Apart (sym (names-push cs d)) (apart-push (names cs) d.name s.apart (names_differ d.name cs q)))
+      (apart_more cs d s.apart q)
       (blocks-opened (length bytes / 512) cs d h)
 
   pub changed_image : (t : StateValue) (i : ℕ) (c : CaseValue) → Fit (with_state t c) → slice_get cs i ≡ Some c → more ≡ with_block bytes i (case_block (with_state t c)) → ImageOf more (changed i t cs)
