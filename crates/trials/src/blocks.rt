@@ -73,7 +73,8 @@ fn stray_at_the_end(rt: HostRuntime) -> Result<(), Fail> {
     Ok(())
 }
 
-/// A tag, the length of its value, and whether the field is put behind an identifier, or the number of the refusal.
+/// A tag, the length of its value, and what comes of putting it behind an identifier, or the number of the refusal. The tag is a
+/// number, since some of the numbers are those of no listed tag.
 #[derive(Clone, Copy)]
 struct Put(u8, usize, Result<(), u8>);
 
@@ -97,17 +98,21 @@ const PUTS: [Put; 14] = [
 #[test]
 fn puts(rt: HostRuntime) -> Result<(), Fail> {
     let bytes = [65; 106];
+    let identifier = Tag::Identifier.number();
     for put in PUTS.iter() {
         let Put(tag, len, expected) = *put;
         let mut block = [9; BLOCK];
         let mut writer = BlockWriter::new(&mut block);
-        assert!(rt; writer.put(Tag::Identifier.number(), &bytes[0..20]).is_ok());
+        assert!(rt; writer.put(identifier, &bytes[0..20]).is_ok());
         let answer = writer.put(tag, &bytes[0..len.min(106)]);
         writer.close();
         assert_eq!(rt; answer.map_err(|refusal| refusal.number()), expected);
         assert_eq!(rt; judged(&block), Ok(()));
-        assert_eq!(rt; value(&block, 2), Some(&bytes[0..20]));
-        assert_eq!(rt; value(&block, tag).is_some(), expected.is_ok() || tag == 2);
+        assert_eq!(rt; value(&block, identifier), Some(&bytes[0..20]));
+        assert_eq!(rt;
+            value(&block, tag).is_some(),
+            expected.is_ok() || tag == identifier
+        );
     }
     Ok(())
 }

@@ -4,7 +4,7 @@ use crate::making::{fit, spoilt, with_byte};
 use block::BLOCK;
 use books::book::CaseBook;
 use books::refusal::BookRefusal;
-use books::totals::totals_of;
+use books::totals::{Totals, totals_of};
 use cases::case::{Case, CaseName, Original, OriginalKind, State, Subject};
 use cases::state::Status;
 use coding::{case_block, exact_case, read_case};
@@ -256,18 +256,15 @@ fn has_totals<B: CaseBook>(
 ) -> Result<(), Fail>
     requires { B.sound book.now }
 {
-    let totals = totals_of(book);
-    assert_eq!(rt;
-        [
-            totals.open,
-            totals.pending,
-            totals.agreed,
-            totals.declined,
-            totals.withdrawn,
-        ],
-        expected,
-        "step {row}"
-    );
+    let [open, pending, agreed, declined, withdrawn] = expected;
+    let totals = Totals {
+        open,
+        pending,
+        agreed,
+        declined,
+        withdrawn,
+    };
+    assert_eq!(rt; totals_of(book), totals, "step {row}");
     let all = expected
         .iter()
         .fold(0usize, |all, total| all.saturating_add(*total));
@@ -332,8 +329,13 @@ fn laid_over(rows: &mut [Case]) -> Result<(usize, usize), BookRefusal> {
     Ok((book.count(), book.capacity()))
 }
 
-/// Numbers of rows, and whether they are those of a book.
-const SIZES: [(usize, bool); 4] = [(0, false), (1, true), (4096, true), (4097, false)];
+/// Numbers of rows, and whether they are those of a book, or the number of the refusal.
+const SIZES: [(usize, Result<(), u8>); 4] = [
+    (0, Err(50)),
+    (1, Ok(())),
+    (4096, Ok(())),
+    (4097, Err(50)),
+];
 
 #[test]
 fn sizes(rt: HostRuntime) -> Result<(), Fail> {
@@ -341,7 +343,7 @@ fn sizes(rt: HostRuntime) -> Result<(), Fail> {
         let mut rows = vec![in rt.alloc(); Case::vacant(); *len]?;
         assert_eq!(rt;
             numbered(laid_over(rows.as_mut_slice())),
-            if *fit { Ok((0, *len)) } else { Err(50) }
+            fit.map(|()| (0, *len))
         );
     }
     Ok(())

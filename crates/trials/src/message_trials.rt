@@ -183,29 +183,25 @@ fn judged(rt: &impl Abort, bytes: &[u8]) -> Result<Outcome, Fail> {
     }
 }
 
-/// Lengths of byte strings of zeros, and the number of the refusal: 4 where the length is right, as there is no kind.
-const LENGTHS: [(usize, u8); 10] = [
-    (0, 1),
-    (1, 1),
-    (511, 1),
-    (512, 4),
-    (513, 1),
-    (1023, 1),
-    (8703, 1),
-    (8704, 4),
-    (8705, 1),
-    (9216, 1),
+/// Lengths of byte strings of zeros, and what comes of reading them: where the length is right, there is no kind.
+const LENGTHS: [(usize, Outcome); 10] = [
+    (0, Err((1, 0, 0))),
+    (1, Err((1, 0, 0))),
+    (511, Err((1, 0, 0))),
+    (512, Err((4, 0, 1))),
+    (513, Err((1, 0, 0))),
+    (1023, Err((1, 0, 0))),
+    (8703, Err((1, 0, 0))),
+    (8704, Err((4, 0, 1))),
+    (8705, Err((1, 0, 0))),
+    (9216, Err((1, 0, 0))),
 ];
 
 #[test]
 fn lengths(rt: HostRuntime) -> Result<(), Fail> {
     let zeros = [0; 9216];
-    for (len, number) in LENGTHS.iter() {
-        let place = if *number == 4 { 1 } else { 0 };
-        assert_eq!(rt;
-            judged(&rt, &zeros[0..(*len).min(9216)])?,
-            Err((*number, 0, place))
-        );
+    for (len, expected) in LENGTHS.iter() {
+        assert_eq!(rt; judged(&rt, &zeros[0..(*len).min(9216)])?, *expected);
     }
     Ok(())
 }
