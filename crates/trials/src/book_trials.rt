@@ -1,6 +1,7 @@
 //! Cases and books, run: what answers make of a case, and the same calls over both forms of a book.
-use block::check::check_of;
-use block::{BLOCK, BODY};
+use crate::book_trials::Stage::{Agreed, Declined, Open, Pending, Withdrawn};
+use crate::making::{fit, spoilt, with_byte};
+use block::BLOCK;
 use books::book::CaseBook;
 use books::refusal::BookRefusal;
 use books::totals::totals_of;
@@ -15,8 +16,6 @@ use std::process::Abort;
 use std::test::*;
 use values::amount::Amount;
 use values::identifier::Identifier;
-use values::member_code::MemberCode;
-use values::uetr::Uetr;
 
 /// The identifier of a message that opens cases.
 const OPENING: &[u8; 20] = b"30000120240301000001";
@@ -27,38 +26,41 @@ const CLOSING: &[u8; 20] = b"30000220240302000002";
 /// The identifier of a later message.
 const LATER: &[u8; 20] = b"30000220240303000003";
 
-/// The identifier that bytes are, which have to be fit.
-fn identifier(bytes: &[u8]) -> Result<Identifier, Fail> {
-    match Identifier::read(bytes) {
-        Some(identifier) => Ok(identifier),
-        None => Err(Fail::new("no identifier")),
-    }
-}
-
 /// The name of the case with this number. Case 2 has the identifier of case 1 as well, and case 3 has its reference.
 fn name(number: u8) -> Result<CaseName, Fail> {
     let (opening, reference) = if number == 3 {
-        (identifier(LATER)?, 1)
+        (LATER, 1)
     } else {
-        (identifier(OPENING)?, number)
+        (OPENING, number)
     };
-    match Uetr::read(&[reference; 16]) {
-        Some(uetr) => Ok(CaseName {
-            identifier: opening,
-            uetr,
-        }),
-        None => Err(Fail::new("no reference")),
-    }
+    Ok(CaseName {
+        identifier: fit(opening)?,
+        uetr: fit(&[reference; 16])?,
+    })
 }
 
-/// The state with this number, which, where it is a closed one, was closed by this message.
-fn state(number: u8, closing: Identifier) -> State {
-    match number {
-        1 => State::Open,
-        2 => State::Pending,
-        3 => State::Agreed(closing),
-        4 => State::Declined(closing),
-        _ => State::Withdrawn(closing),
+/// A state, whatever message closed it.
+#[derive(Clone, Copy, Debug, PartialEq, Eq)]
+enum Stage {
+    Open,
+    Pending,
+    Agreed,
+    Declined,
+    Withdrawn,
+}
+
+const STAGES: [Stage; 5] = [Open, Pending, Agreed, Declined, Withdrawn];
+
+impl Stage {
+    /// The state, which, where it is a closed one, was closed by this message.
+    fn state(self, closing: Identifier) -> State {
+        match self {
+            Open => State::Open,
+            Pending => State::Pending,
+            Agreed => State::Agreed(closing),
+            Declined => State::Declined(closing),
+            Withdrawn => State::Withdrawn(closing),
+        }
     }
 }
 
@@ -67,7 +69,7 @@ fn subject(number: u8) -> Result<Subject, Fail> {
     if number % 2 == 0 {
         Ok(Subject::Recall(Original {
             kind: OriginalKind::InstitutionTransfer,
-            identifier: identifier(LATER)?,
+            identifier: fit(LATER)?,
         }))
     } else {
         Ok(Subject::Request)
@@ -76,111 +78,80 @@ fn subject(number: u8) -> Result<Subject, Fail> {
 
 /// The case with this number, in a state.
 fn case(number: u8, state: State) -> Result<Case, Fail> {
-    let Some(amount) = Amount::new(u64::from(number)) else {
-        return Err(Fail::new("no amount"));
-    };
-    let Some(opener) = MemberCode::read(b"300001") else {
-        return Err(Fail::new("no code"));
-    };
     Ok(Case {
         name: name(number)?,
         subject: subject(number)?,
-        amount,
-        opener,
+        amount: Amount::new(u64::from(number)).ok_or("no amount")?,
+        opener: fit(b"300001")?,
         state,
         ..Case::vacant()
     })
 }
 
-/// The number of a state and the identifier that closed it, or 0 where there is no state.
-fn seen(state: Option<State>) -> (u8, Option<[u8; 20]>) {
-    let Some(state) = state else {
-        return (0, None);
-    };
-    match state {
-        State::Open => (1, None),
-        State::Pending => (2, None),
-        State::Agreed(closing) => (3, Some(closing.bytes)),
-        State::Declined(closing) => (4, Some(closing.bytes)),
-        State::Withdrawn(closing) => (5, Some(closing.bytes)),
-    }
-}
-
-/// The number of a state that came of a message, and the identifier that closed it, which then is that of the message.
-fn closed_by(number: u8, closing: &[u8; 20]) -> (u8, Option<[u8; 20]>) {
-    (number, if number > 2 { Some(*closing) } else { None })
-}
-
-const STATUSES: [Status; 6] = [
-    Status::Accepted,
-    Status::Rejected,
-    Status::Pending,
-    Status::AcceptedCancellation,
-    Status::RejectedCancellation,
-    Status::PendingCancellation,
-];
-
-/// The number of a state, that of the state after each of the statuses, and that after a withdrawal; 0 stands for none.
-const ANSWERS: [(u8, [u8; 6], u8); 5] = [
-    (1, [3, 4, 2, 3, 4, 2], 5),
-    (2, [3, 4, 2, 3, 4, 2], 5),
-    (3, [0, 0, 0, 0, 0, 0], 0),
-    (4, [0, 0, 0, 0, 0, 0], 0),
-    (5, [0, 0, 0, 0, 0, 0], 0),
+/// The statuses, each with the state that it makes of a case that is not closed.
+const STATUSES: [(Status, Stage); 6] = [
+    (Status::Accepted, Agreed),
+    (Status::Rejected, Declined),
+    (Status::Pending, Pending),
+    (Status::AcceptedCancellation, Agreed),
+    (Status::RejectedCancellation, Declined),
+    (Status::PendingCancellation, Pending),
 ];
 
 #[test]
 fn answers(rt: HostRuntime) -> Result<(), Fail> {
-    let later = identifier(LATER)?;
-    for (number, after, withdrawn) in ANSWERS.iter() {
-        let case = case(1, state(*number, identifier(CLOSING)?))?;
-        for (status, expected) in STATUSES.iter().zip(after.iter()) {
-            assert_eq!(rt;
-                seen(case.after(*status, later)),
-                closed_by(*expected, LATER),
-                "in state {number}"
+    let (closing, later) = (fit(CLOSING)?, fit(LATER)?);
+    for stage in STAGES {
+        let closed = stage != Open && stage != Pending;
+        let case = case(1, stage.state(closing))?;
+        for (status, next) in STATUSES.iter() {
+            let expected = (!closed).then_some(next.state(later));
+            assert!(rt;
+                case.after(*status, later) == expected,
+                "in state {stage:?}"
             );
         }
-        assert_eq!(rt;
-            seen(case.after_withdrawal(later)),
-            closed_by(*withdrawn, LATER)
+        let expected = (!closed).then_some(State::Withdrawn(later));
+        assert!(rt;
+            case.after_withdrawal(later) == expected,
+            "in state {stage:?}"
         );
-        assert_eq!(rt; case.state.is_closed(), *number > 2);
+        assert_eq!(rt; case.state.is_closed(), closed, "in state {stage:?}");
     }
     Ok(())
 }
 
-/// Numbers of states, with and without a closing identifier, and whether there is such a state.
-const STATES: [(u8, bool, bool); 14] = [
-    (0, false, false),
-    (0, true, false),
-    (1, false, true),
-    (1, true, false),
-    (2, false, true),
-    (2, true, false),
-    (3, false, false),
-    (3, true, true),
-    (4, false, false),
-    (4, true, true),
-    (5, false, false),
-    (5, true, true),
-    (6, false, false),
-    (6, true, false),
+/// Numbers of states, with and without a closing identifier, and the state, if there is such a one.
+const STATES: [(u8, bool, Option<Stage>); 14] = [
+    (0, false, None),
+    (0, true, None),
+    (1, false, Some(Open)),
+    (1, true, None),
+    (2, false, Some(Pending)),
+    (2, true, None),
+    (3, false, None),
+    (3, true, Some(Agreed)),
+    (4, false, None),
+    (4, true, Some(Declined)),
+    (5, false, None),
+    (5, true, Some(Withdrawn)),
+    (6, false, None),
+    (6, true, None),
 ];
 
 #[test]
 fn state_numbers(rt: HostRuntime) -> Result<(), Fail> {
-    let closing = identifier(CLOSING)?;
-    for (number, closed, stands) in STATES.iter() {
-        let read = State::read(*number, if *closed { Some(closing) } else { None });
-        let expected = if *stands { *number } else { 0 };
-        assert_eq!(rt; seen(read), closed_by(expected, CLOSING), "number {number}");
+    let closing = fit(CLOSING)?;
+    for (number, closed, expected) in STATES.iter() {
+        let given = closed.then_some(closing);
+        let read = State::read(*number, given);
+        assert!(rt;
+            read == expected.map(|stage| stage.state(closing)),
+            "number {number}"
+        );
         if let Some(state) = read {
             assert_eq!(rt; state.number(), *number);
-            match state.closing() {
-                Some(back) => assert!(rt; *closed && same_bytes(&back.bytes, CLOSING)),
-                None => assert!(rt; !*closed),
-            }
+            assert!(rt; state.closing() == given);
         }
     }
     Ok(())
@@ -202,10 +173,12 @@ const ORIGINALS: [(u8, bool); 9] = [
 #[test]
 fn kind_numbers(rt: HostRuntime) -> Result<(), Fail> {
     for (number, stands) in ORIGINALS.iter() {
-        match OriginalKind::read(*number) {
-            Some(kind) => assert!(rt; *stands && kind.number() == *number),
-            None => assert!(rt; !*stands),
-        }
+        assert_eq!(rt;
+            OriginalKind::try_from(*number)
+                .ok()
+                .map(|kind| kind.number()),
+            stands.then_some(*number)
+        );
     }
     assert_eq!(rt; OriginalKind::CustomerTransfer.number(), 8);
     assert_eq!(rt; OriginalKind::InstitutionTransfer.number(), 9);
@@ -218,61 +191,58 @@ fn kind_numbers(rt: HostRuntime) -> Result<(), Fail> {
 /// A call of a book.
 #[derive(Clone, Copy)]
 enum Call {
-    /// Opens the case with the first number, which is given in the state with the second.
-    Open(u8, u8),
-    /// Changes the case at a place to the state with this number.
-    Change(usize, u8),
-    /// Sets the state of the case with the first number to that with the second.
-    Set(u8, u8),
+    /// Opens the case with this number, which is given in a state.
+    Open(u8, Stage),
+    /// Changes the case at a place to a state.
+    Change(usize, Stage),
+    /// Sets the state of the case with this number.
+    Set(u8, Stage),
 }
 
-/// A call, the number of its refusal, or 0, and the totals of the book after it, from open to withdrawn.
+/// A call, its answer or the number of the refusal, and the totals of the book after it, from open to withdrawn.
 #[derive(Clone, Copy)]
-struct Step(Call, u8, [usize; 5]);
+struct Step(Call, Result<(), u8>, [usize; 5]);
 
 /// Calls of a book that has room for two cases.
 const STEPS: [Step; 15] = [
-    Step(Call::Change(0, 2), 51, [0, 0, 0, 0, 0]),
-    Step(Call::Set(1, 2), 0, [0, 0, 0, 0, 0]),
-    Step(Call::Open(1, 1), 0, [1, 0, 0, 0, 0]),
-    Step(Call::Open(1, 1), 52, [1, 0, 0, 0, 0]),
-    Step(Call::Change(1, 3), 51, [1, 0, 0, 0, 0]),
-    Step(Call::Open(2, 3), 0, [2, 0, 0, 0, 0]),
-    Step(Call::Open(3, 1), 53, [2, 0, 0, 0, 0]),
-    Step(Call::Open(2, 1), 52, [2, 0, 0, 0, 0]),
-    Step(Call::Change(2, 2), 51, [2, 0, 0, 0, 0]),
-    Step(Call::Change(1, 2), 0, [1, 1, 0, 0, 0]),
-    Step(Call::Set(2, 3), 0, [1, 0, 1, 0, 0]),
-    Step(Call::Set(3, 4), 0, [1, 0, 1, 0, 0]),
-    Step(Call::Change(0, 5), 0, [0, 0, 1, 0, 1]),
-    Step(Call::Change(usize::MAX, 1), 51, [0, 0, 1, 0, 1]),
-    Step(Call::Set(1, 4), 0, [0, 0, 1, 1, 0]),
+    Step(Call::Change(0, Pending), Err(51), [0, 0, 0, 0, 0]),
+    Step(Call::Set(1, Pending), Ok(()), [0, 0, 0, 0, 0]),
+    Step(Call::Open(1, Open), Ok(()), [1, 0, 0, 0, 0]),
+    Step(Call::Open(1, Open), Err(52), [1, 0, 0, 0, 0]),
+    Step(Call::Change(1, Agreed), Err(51), [1, 0, 0, 0, 0]),
+    Step(Call::Open(2, Agreed), Ok(()), [2, 0, 0, 0, 0]),
+    Step(Call::Open(3, Open), Err(53), [2, 0, 0, 0, 0]),
+    Step(Call::Open(2, Open), Err(52), [2, 0, 0, 0, 0]),
+    Step(Call::Change(2, Pending), Err(51), [2, 0, 0, 0, 0]),
+    Step(Call::Change(1, Pending), Ok(()), [1, 1, 0, 0, 0]),
+    Step(Call::Set(2, Agreed), Ok(()), [1, 0, 1, 0, 0]),
+    Step(Call::Set(3, Declined), Ok(()), [1, 0, 1, 0, 0]),
+    Step(Call::Change(0, Withdrawn), Ok(()), [0, 0, 1, 0, 1]),
+    Step(Call::Change(usize::MAX, Open), Err(51), [0, 0, 1, 0, 1]),
+    Step(Call::Set(1, Declined), Ok(()), [0, 0, 1, 1, 0]),
 ];
 
-/// The number of a refusal, or 0.
-fn refused(answer: Result<(), BookRefusal>) -> u8 {
-    match answer {
-        Ok(()) => 0,
-        Err(refusal) => refusal.number(),
-    }
+/// The answer, or the number of the refusal.
+fn numbered<T: Copy>(answer: Result<T, BookRefusal>) -> Result<T, u8> {
+    answer.map_err(|refusal| refusal.number())
 }
 
-/// Makes a call, and answers with the number of its refusal, or 0.
-fn make<B: CaseBook>(book: &mut B, call: Call) -> Result<u8, Fail>
+/// Makes a call, and gives its answer or the number of the refusal.
+fn make<B: CaseBook>(book: &mut B, call: Call) -> Result<Result<(), u8>, Fail>
     requires { B.sound book.old }
     ensures { B.sound book.new }
 {
-    let closing = identifier(CLOSING)?;
+    let closing = fit(CLOSING)?;
     match call {
         Call::Open(number, given) => {
-            let case = case(number, state(given, closing))?;
-            Ok(refused(book.open(case)))
+            let case = case(number, given.state(closing))?;
+            Ok(numbered(book.open(case)))
         }
-        Call::Change(at, to) => Ok(refused(book.change(at, state(to, closing)))),
+        Call::Change(at, to) => Ok(numbered(book.change(at, to.state(closing)))),
         Call::Set(number, to) => {
             let name = name(number)?;
-            book.set_state(&name, state(to, closing));
-            Ok(0)
+            book.set_state(&name, to.state(closing));
+            Ok(Ok(()))
         }
     }
 }
@@ -298,10 +268,9 @@ fn has_totals<B: CaseBook>(
         expected,
         "step {row}"
     );
-    let mut all: usize = 0;
-    for total in expected {
-        all = all.saturating_add(total);
-    }
+    let all = expected
+        .iter()
+        .fold(0usize, |all, total| all.saturating_add(*total));
     assert_eq!(rt; book.count(), all, "step {row}");
     Ok(())
 }
@@ -319,37 +288,11 @@ fn exercise<B: CaseBook>(rt: &impl Abort, book: &mut B) -> Result<(), Fail>
     Ok(())
 }
 
-/// The kind and the identifier of the original that a case is the recall of.
-fn original(subject: Subject) -> Option<(u8, [u8; 20])> {
-    match subject {
-        Subject::Request => None,
-        Subject::Recall(original) => {
-            let bytes = original.identifier.bytes;
-            Some((original.kind.number(), bytes))
-        }
-    }
-}
-
-/// Checks that a case is there and is the expected one, part by part.
-fn is_case(rt: &impl Abort, found: Option<Case>, expected: Case) -> Result<(), Fail> {
-    let Some(found) = found else {
-        return Err(Fail::new("no case"));
-    };
-    assert!(rt; found.name.is(&expected.name));
-    assert_eq!(rt; original(found.subject), original(expected.subject));
-    assert!(rt; same_bytes(found.end_to_end.bytes(), expected.end_to_end.bytes()));
-    assert_eq!(rt; found.amount.kopecks, expected.amount.kopecks);
-    assert_eq!(rt; found.opener.bytes, expected.opener.bytes);
-    assert_eq!(rt; found.assignee.bytes, expected.assignee.bytes);
-    assert_eq!(rt; seen(Some(found.state)), seen(Some(expected.state)));
-    Ok(())
-}
-
 /// Checks what a book shows after the calls of the table: case 1, declined, then case 2, agreed, and no other.
 fn shows<B: CaseBook>(rt: &impl Abort, book: &B) -> Result<(), Fail>
     requires { B.sound book.now }
 {
-    let closing = identifier(CLOSING)?;
+    let closing = fit(CLOSING)?;
     let first = case(1, State::Declined(closing))?;
     let second = case(2, State::Agreed(closing))?;
     let absent = name(3)?;
@@ -357,8 +300,8 @@ fn shows<B: CaseBook>(rt: &impl Abort, book: &B) -> Result<(), Fail>
     assert_eq!(rt; book.find(&first.name), Some(0));
     assert_eq!(rt; book.find(&second.name), Some(1));
     assert_eq!(rt; book.find(&absent), None);
-    is_case(rt, book.case_at(0), first)?;
-    is_case(rt, book.look(&second.name), second)?;
+    assert!(rt; book.case_at(0) == Some(first));
+    assert!(rt; book.look(&second.name) == Some(second));
     assert!(rt; book.case_at(2).is_none() && book.look(&absent).is_none());
     Ok(())
 }
@@ -366,9 +309,7 @@ fn shows<B: CaseBook>(rt: &impl Abort, book: &B) -> Result<(), Fail>
 #[test]
 fn rows_books(rt: HostRuntime) -> Result<(), Fail> {
     let mut rows = [Case::vacant(); 2];
-    let Ok(mut book) = RowsBook::over(&mut rows) else {
-        return Err(Fail::new("no book"));
-    };
+    let mut book = RowsBook::over(&mut rows)?;
     exercise(&rt, &mut book)?;
     shows(&rt, &book)
 }
@@ -377,16 +318,18 @@ fn rows_books(rt: HostRuntime) -> Result<(), Fail> {
 fn image_books(rt: HostRuntime) -> Result<(), Fail> {
     let mut bytes = [9; 2 * BLOCK];
     {
-        let Ok(mut book) = ImageBook::new(&mut bytes) else {
-            return Err(Fail::new("no book"));
-        };
+        let mut book = ImageBook::new(&mut bytes)?;
         exercise(&rt, &mut book)?;
         shows(&rt, &book)?;
     }
-    let Ok(again) = ImageBook::mount(&mut bytes) else {
-        return Err(Fail::new("no book again"));
-    };
+    let again = ImageBook::mount(&mut bytes)?;
     shows(&rt, &again)
+}
+
+/// The number of cases of a book over rows, and how many there is room for.
+fn laid_over(rows: &mut [Case]) -> Result<(usize, usize), BookRefusal> {
+    let book = RowsBook::over(rows)?;
+    Ok((book.count(), book.capacity()))
 }
 
 /// Numbers of rows, and whether they are those of a book.
@@ -396,55 +339,46 @@ const SIZES: [(usize, bool); 4] = [(0, false), (1, true), (4096, true), (4097, f
 fn sizes(rt: HostRuntime) -> Result<(), Fail> {
     for (len, fit) in SIZES.iter() {
         let mut rows = vec![in rt.alloc(); Case::vacant(); *len]?;
-        match RowsBook::over(rows.as_mut_slice()) {
-            Ok(book) => {
-                assert_eq!(rt; book.capacity(), *len);
-                assert_eq!(rt; (book.count(), *fit), (0, true));
-            }
-            Err(refusal) => assert_eq!(rt; (refusal.number(), *fit), (50, false)),
-        }
+        assert_eq!(rt;
+            numbered(laid_over(rows.as_mut_slice())),
+            if *fit { Ok((0, *len)) } else { Err(50) }
+        );
     }
     Ok(())
 }
 
-/// The number of the refusal to make an empty book over bytes, or 0, and how many cases there is room for.
-fn emptied(bytes: &mut [u8]) -> (u8, usize) {
-    match ImageBook::new(bytes) {
-        Ok(book) => (0, book.capacity()),
-        Err(refusal) => (refusal.number(), 0),
-    }
+/// How many cases there is room for in an empty book over bytes.
+fn emptied(bytes: &mut [u8]) -> Result<usize, BookRefusal> {
+    Ok(ImageBook::new(bytes)?.capacity())
 }
 
-/// The number of the refusal to mount bytes, or 0, and how many cases there are.
-fn mounted(bytes: &mut [u8]) -> (u8, usize) {
-    match ImageBook::mount(bytes) {
-        Ok(book) => (0, book.count()),
-        Err(refusal) => (refusal.number(), 0),
-    }
+/// How many cases there are in the book whose image the bytes are.
+fn mounted(bytes: &mut [u8]) -> Result<usize, BookRefusal> {
+    Ok(ImageBook::mount(bytes)?.count())
 }
 
-/// Lengths of bytes, and how many cases there is room for in them, or 0 where they are no book.
-const LENGTHS: [(usize, usize); 9] = [
-    (0, 0),
-    (1, 0),
-    (511, 0),
-    (512, 1),
-    (513, 0),
-    (1024, 2),
-    (1025, 0),
-    (2_097_152, 4096),
-    (2_097_664, 0),
+/// Lengths of bytes, and how many cases there is room for in them, or the number of the refusal.
+const LENGTHS: [(usize, Result<usize, u8>); 9] = [
+    (0, Err(50)),
+    (1, Err(50)),
+    (511, Err(50)),
+    (512, Ok(1)),
+    (513, Err(50)),
+    (1024, Ok(2)),
+    (1025, Err(50)),
+    (2_097_152, Ok(4096)),
+    (2_097_664, Err(50)),
 ];
 
 #[test]
 fn image_lengths(rt: HostRuntime) -> Result<(), Fail> {
     for (len, room) in LENGTHS.iter() {
-        let answer = if *room == 0 { 50 } else { 0 };
+        let none = room.map(|_| 0);
         let mut bytes = vec![in rt.alloc(); 0; *len]?;
-        assert_eq!(rt; mounted(bytes.as_mut_slice()), (answer, 0));
+        assert_eq!(rt; numbered(mounted(bytes.as_mut_slice())), none);
         let mut bytes = vec![in rt.alloc(); 9; *len]?;
-        assert_eq!(rt; emptied(bytes.as_mut_slice()), (answer, *room));
-        assert_eq!(rt; mounted(bytes.as_mut_slice()), (answer, 0));
+        assert_eq!(rt; numbered(emptied(bytes.as_mut_slice())), *room);
+        assert_eq!(rt; numbered(mounted(bytes.as_mut_slice())), none);
     }
     Ok(())
 }
@@ -453,44 +387,37 @@ fn image_lengths(rt: HostRuntime) -> Result<(), Fail> {
 #[derive(Clone, Copy)]
 enum Piece {
     Blank,
-    /// The case in the state with this number.
-    Holds(u8, u8),
+    /// The case in this state.
+    Holds(u8, Stage),
     /// The open case, but one bit of the byte at this place is another one, and the check is left.
     Spoilt(u8, usize),
     /// The open case, but the byte at this place is this one, and the check is right again.
     Set(u8, usize, u8),
 }
 
+/// The block of a case.
+fn held(number: u8, stage: Stage) -> Result<[u8; BLOCK], Fail> {
+    Ok(case_block(&case(number, stage.state(fit(CLOSING)?))?))
+}
+
 /// The bytes of a block.
 fn laid(piece: Piece) -> Result<[u8; BLOCK], Fail> {
-    let (number, given) = match piece {
-        Piece::Blank => return Ok([0; BLOCK]),
-        Piece::Holds(number, given) => (number, given),
-        Piece::Spoilt(number, _) | Piece::Set(number, _, _) => (number, 1),
-    };
-    let case = case(number, state(given, identifier(CLOSING)?))?;
-    let mut block = case_block(&case);
     match piece {
-        Piece::Spoilt(_, place) if place < BLOCK => block[place] = block[place] ^ 1,
-        Piece::Set(_, place, byte) if place < BODY => {
-            block[place] = byte;
-            let check = check_of(&block);
-            block[BODY] = (check / 256) as u8;
-            block[BODY + 1] = (check % 256) as u8;
-        }
-        _ => {}
+        Piece::Blank => Ok([0; BLOCK]),
+        Piece::Holds(number, stage) => held(number, stage),
+        Piece::Spoilt(number, place) => Ok(spoilt(held(number, Open)?, place)),
+        Piece::Set(number, place, byte) => Ok(with_byte(held(number, Open)?, place, byte)),
     }
-    Ok(block)
 }
 
 #[test]
 fn blocks_of_cases(rt: HostRuntime) -> Result<(), Fail> {
     for number in 1..3 {
-        for given in 1..6 {
-            let case = case(number, state(given, identifier(CLOSING)?))?;
+        for stage in STAGES {
+            let case = case(number, stage.state(fit(CLOSING)?))?;
             let block = case_block(&case);
-            is_case(&rt, read_case(&block), case)?;
-            is_case(&rt, exact_case(&block), case)?;
+            assert!(rt; read_case(&block) == Some(case));
+            assert!(rt; exact_case(&block) == Some(case));
         }
     }
     // a recall as a request: the case is there, and so is an original, which no request has
@@ -499,57 +426,59 @@ fn blocks_of_cases(rt: HostRuntime) -> Result<(), Fail> {
     Ok(())
 }
 
-/// Two blocks, the number of the refusal to mount them, or 0, and how many cases there are.
+/// Two blocks, and how many cases there are where they are mounted, or the number of the refusal.
 #[derive(Clone, Copy)]
-struct Image(Piece, Piece, u8, usize);
+struct Image(Piece, Piece, Result<usize, u8>);
 
 const IMAGES: [Image; 29] = [
-    Image(Piece::Blank, Piece::Blank, 0, 0),
-    Image(Piece::Holds(1, 1), Piece::Blank, 0, 1),
-    Image(Piece::Holds(2, 5), Piece::Holds(1, 4), 0, 2),
+    Image(Piece::Blank, Piece::Blank, Ok(0)),
+    Image(Piece::Holds(1, Open), Piece::Blank, Ok(1)),
+    Image(Piece::Holds(2, Withdrawn), Piece::Holds(1, Declined), Ok(2)),
     // a blank block before a case, and the same name twice
-    Image(Piece::Blank, Piece::Holds(1, 1), 50, 0),
-    Image(Piece::Holds(1, 1), Piece::Holds(1, 1), 50, 0),
-    Image(Piece::Holds(2, 1), Piece::Holds(2, 3), 50, 0),
+    Image(Piece::Blank, Piece::Holds(1, Open), Err(50)),
+    Image(Piece::Holds(1, Open), Piece::Holds(1, Open), Err(50)),
+    Image(Piece::Holds(2, Open), Piece::Holds(2, Agreed), Err(50)),
     // a spoilt byte, with the check as it was
-    Image(Piece::Spoilt(1, 0), Piece::Blank, 50, 0),
-    Image(Piece::Spoilt(1, 5), Piece::Blank, 50, 0),
-    Image(Piece::Spoilt(1, 100), Piece::Blank, 50, 0),
-    Image(Piece::Spoilt(1, 509), Piece::Blank, 50, 0),
-    Image(Piece::Spoilt(1, 510), Piece::Blank, 50, 0),
-    Image(Piece::Spoilt(1, 511), Piece::Blank, 50, 0),
-    Image(Piece::Holds(1, 1), Piece::Spoilt(2, 0), 50, 0),
-    Image(Piece::Holds(1, 1), Piece::Spoilt(2, 511), 50, 0),
+    Image(Piece::Spoilt(1, 0), Piece::Blank, Err(50)),
+    Image(Piece::Spoilt(1, 5), Piece::Blank, Err(50)),
+    Image(Piece::Spoilt(1, 100), Piece::Blank, Err(50)),
+    Image(Piece::Spoilt(1, 509), Piece::Blank, Err(50)),
+    Image(Piece::Spoilt(1, 510), Piece::Blank, Err(50)),
+    Image(Piece::Spoilt(1, 511), Piece::Blank, Err(50)),
+    Image(Piece::Holds(1, Open), Piece::Spoilt(2, 0), Err(50)),
+    Image(Piece::Holds(1, Open), Piece::Spoilt(2, 511), Err(50)),
     // another kind, an unfit identifier, and a fit one
-    Image(Piece::Set(1, 2, 14), Piece::Blank, 50, 0),
-    Image(Piece::Set(1, 24, b'a'), Piece::Blank, 50, 0),
-    Image(Piece::Set(1, 24, b'A'), Piece::Blank, 0, 1),
+    Image(Piece::Set(1, 2, 14), Piece::Blank, Err(50)),
+    Image(Piece::Set(1, 24, b'a'), Piece::Blank, Err(50)),
+    Image(Piece::Set(1, 24, b'A'), Piece::Blank, Ok(1)),
     // a request with another state: those from 3 on ask for a closing identifier
-    Image(Piece::Set(1, 43, 0), Piece::Blank, 50, 0),
-    Image(Piece::Set(1, 43, 2), Piece::Blank, 0, 1),
-    Image(Piece::Set(1, 43, 3), Piece::Blank, 50, 0),
+    Image(Piece::Set(1, 43, 0), Piece::Blank, Err(50)),
+    Image(Piece::Set(1, 43, 2), Piece::Blank, Ok(1)),
+    Image(Piece::Set(1, 43, 3), Piece::Blank, Err(50)),
     // a recall of another kind of original, and one that is said to be a request
-    Image(Piece::Set(2, 43, 8), Piece::Blank, 0, 1),
-    Image(Piece::Set(2, 43, 10), Piece::Blank, 50, 0),
-    Image(Piece::Set(2, 2, 13), Piece::Blank, 50, 0),
+    Image(Piece::Set(2, 43, 8), Piece::Blank, Ok(1)),
+    Image(Piece::Set(2, 43, 10), Piece::Blank, Err(50)),
+    Image(Piece::Set(2, 2, 13), Piece::Blank, Err(50)),
     // no field at the front, a tag that is no field's, and an end-to-end identification that is not printable
-    Image(Piece::Set(1, 0, 0), Piece::Blank, 50, 0),
-    Image(Piece::Set(1, 62, 15), Piece::Blank, 50, 0),
-    Image(Piece::Set(1, 64, 31), Piece::Blank, 50, 0),
+    Image(Piece::Set(1, 0, 0), Piece::Blank, Err(50)),
+    Image(Piece::Set(1, 62, 15), Piece::Blank, Err(50)),
+    Image(Piece::Set(1, 64, 31), Piece::Blank, Err(50)),
     // an amount of nothing, and a byte behind the last field
-    Image(Piece::Set(1, 74, 0), Piece::Blank, 50, 0),
-    Image(Piece::Set(1, 75, 1), Piece::Blank, 50, 0),
-    Image(Piece::Holds(1, 1), Piece::Set(2, 509, 1), 50, 0),
+    Image(Piece::Set(1, 74, 0), Piece::Blank, Err(50)),
+    Image(Piece::Set(1, 75, 1), Piece::Blank, Err(50)),
+    Image(Piece::Holds(1, Open), Piece::Set(2, 509, 1), Err(50)),
 ];
 
 #[test]
 fn images(rt: HostRuntime) -> Result<(), Fail> {
     for (row, image) in IMAGES.iter().enumerate() {
-        let Image(first, second, answer, count) = *image;
-        let mut bytes = Vec::new(rt.alloc());
-        bytes.extend_from_slice(&laid(first)?)?;
-        bytes.extend_from_slice(&laid(second)?)?;
-        assert_eq!(rt; mounted(bytes.as_mut_slice()), (answer, count), "row {row}");
+        let Image(first, second, expected) = *image;
+        let mut blocks = [laid(first)?, laid(second)?];
+        assert_eq!(rt;
+            numbered(mounted(blocks.as_flattened_mut())),
+            expected,
+            "row {row}"
+        );
     }
     Ok(())
 }
@@ -563,7 +492,10 @@ fn is_not_saved<B: CaseBook>(rt: &impl Abort, book: &B) -> Result<(), Fail>
 {
     for len in OTHER_LENGTHS {
         let mut bytes = [7; 3 * BLOCK];
-        assert_eq!(rt; refused(save(book, &mut bytes[0..len.min(3 * BLOCK)])), 50);
+        assert_eq!(rt;
+            numbered(save(book, &mut bytes[0..len.min(3 * BLOCK)])),
+            Err(50)
+        );
         assert_eq!(rt; bytes, [7; 3 * BLOCK]);
     }
     Ok(())
@@ -574,20 +506,14 @@ fn saving(rt: HostRuntime) -> Result<(), Fail> {
     let mut rows = [Case::vacant(); 2];
     let mut image = [9; 2 * BLOCK];
     let mut bytes = [7; 2 * BLOCK];
-    let Ok(mut of_rows) = RowsBook::over(&mut rows) else {
-        return Err(Fail::new("no book of rows"));
-    };
+    let mut of_rows = RowsBook::over(&mut rows)?;
     exercise(&rt, &mut of_rows)?;
-    let Ok(mut of_blocks) = ImageBook::new(&mut image) else {
-        return Err(Fail::new("no book of blocks"));
-    };
+    let mut of_blocks = ImageBook::new(&mut image)?;
     exercise(&rt, &mut of_blocks)?;
     is_not_saved(&rt, &of_rows)?;
     is_not_saved(&rt, &of_blocks)?;
-    assert_eq!(rt; refused(save(&of_rows, &mut bytes)), 0);
+    save(&of_rows, &mut bytes)?;
     assert!(rt; same_bytes(&bytes, of_blocks.bytes()));
-    let Ok(again) = ImageBook::mount(&mut bytes) else {
-        return Err(Fail::new("no book"));
-    };
+    let again = ImageBook::mount(&mut bytes)?;
     shows(&rt, &again)
 }

@@ -1,6 +1,8 @@
 //! Values, run at the edges of what is fit.
+use crate::making::fit;
+use crate::value_trials::Fits::{Both, Neither, TextOnly};
 use dates::date::Date;
-use octets::same_bytes;
+use octets::readable::Readable;
 use std::process::Abort;
 use std::test::*;
 use values::amount::Amount;
@@ -11,7 +13,7 @@ use values::status_code::StatusCode;
 use values::text::{EndToEnd, Text};
 use values::uetr::Uetr;
 
-/// Bytes that are fit, or that are not.
+/// Bytes that are fit, or that are not. No `Result`, since bytes that are unfit are no error here: both are given.
 #[derive(Clone, Copy)]
 enum Case {
     Fit(&'static [u8]),
@@ -26,9 +28,9 @@ impl Case {
     }
 
     /// Checks what came of reading the bytes: where they are fit they are given back, else there is nothing.
-    fn expect(&self, rt: &impl Abort, back: Option<&[u8]>) -> Result<(), Fail> {
+    fn expect<const N: usize>(&self, rt: &impl Abort, back: Option<[u8; N]>) -> Result<(), Fail> {
         let agrees = match (*self, back) {
-            (Case::Fit(bytes), Some(back)) => same_bytes(bytes, back),
+            (Case::Fit(bytes), Some(back)) => bytes == back.as_slice(),
             (Case::Unfit(_), None) => true,
             _ => false,
         };
@@ -64,28 +66,9 @@ const DATES: [Case; 21] = [
 #[test]
 fn dates(rt: HostRuntime) -> Result<(), Fail> {
     for case in DATES.iter() {
-        match Date::read(case.bytes()) {
-            Some(date) => case.expect(&rt, Some(&date.digits()))?,
-            None => case.expect(&rt, None)?,
-        }
+        case.expect(&rt, Date::read(case.bytes()).map(|date| date.digits()))?;
     }
     Ok(())
-}
-
-/// The date that bytes write, which have to be fit.
-fn date(bytes: &[u8]) -> Result<Date, Fail> {
-    match Date::read(bytes) {
-        Some(date) => Ok(date),
-        None => Err(Fail::new("no date")),
-    }
-}
-
-/// The code that bytes are, which have to be fit.
-fn member(bytes: &[u8]) -> Result<MemberCode, Fail> {
-    match MemberCode::read(bytes) {
-        Some(code) => Ok(code),
-        None => Err(Fail::new("no code")),
-    }
 }
 
 /// Dates, each with the day before it.
@@ -103,14 +86,12 @@ const DAYS: [(&[u8; 8], &[u8; 8]); 8] = [
 #[test]
 fn days_before(rt: HostRuntime) -> Result<(), Fail> {
     for (day, expected) in DAYS.iter() {
-        let day = date(*day)?;
-        let Some(before) = day.day_before() else {
-            return Err(Fail::new("no day before"));
-        };
-        assert!(rt; same_bytes(&before.digits(), *expected));
+        let day: Date = fit(*day)?;
+        let before = day.day_before().ok_or("no day before")?;
+        assert_eq!(rt; before.digits(), **expected);
         assert!(rt; before.is_before(&day) && !day.is_before(&before));
     }
-    let first = date(b"20000101")?;
+    let first: Date = fit(b"20000101")?;
     assert!(rt; first.day_before().is_none() && !first.is_before(&first));
     Ok(())
 }
@@ -160,68 +141,62 @@ const SUMS: [Sum; 6] = [
 fn amounts(rt: HostRuntime) -> Result<(), Fail> {
     for sum in SUMS.iter() {
         assert_eq!(rt; Amount::new(sum.kopecks).is_some(), sum.fit);
-        match Amount::read(&sum.bytes) {
-            Some(amount) => {
-                assert!(rt; sum.fit);
-                assert_eq!(rt; amount.kopecks, sum.kopecks);
-                assert_eq!(rt; amount.bytes(), sum.bytes);
-            }
-            None => assert!(rt; !sum.fit),
-        }
+        let read = Amount::read(&sum.bytes);
+        assert_eq!(rt;
+            read.map(|amount| (amount.kopecks, amount.bytes())),
+            sum.fit.then_some((sum.kopecks, sum.bytes))
+        );
     }
     assert!(rt; Amount::read(&[0, 0, 0, 0, 0, 0, 1]).is_none());
     assert!(rt; Amount::read(&[0, 0, 0, 0, 0, 0, 0, 0, 1]).is_none());
     Ok(())
 }
 
-/// A text of so many bytes, all of them `A` but for the last, which is given, by what it is fit for.
-#[derive(Clone, Copy)]
-enum Line {
-    Both(usize, u8),
-    TextOnly(usize, u8),
-    Neither(usize, u8),
+/// What a line of text is fit for.
+#[derive(Clone, Copy, PartialEq, Eq)]
+enum Fits {
+    Both,
+    TextOnly,
+    Neither,
 }
 
-const LINES: [Line; 15] = [
-    Line::Neither(0, 65),
-    Line::Both(1, 65),
-    Line::Both(35, 65),
-    Line::TextOnly(36, 65),
-    Line::TextOnly(105, 65),
-    Line::Neither(106, 65),
-    Line::Neither(1, 31),
-    Line::Both(1, 32),
-    Line::Neither(35, 31),
-    Line::Both(35, 32),
-    Line::Both(35, 126),
-    Line::Neither(35, 127),
-    Line::TextOnly(105, 126),
-    Line::Neither(105, 127),
-    Line::Neither(35, 0),
+/// Texts of so many bytes, all of them `A` but for the last, which is given, and what they are fit for.
+const LINES: [(usize, u8, Fits); 15] = [
+    (0, 65, Neither),
+    (1, 65, Both),
+    (35, 65, Both),
+    (36, 65, TextOnly),
+    (105, 65, TextOnly),
+    (106, 65, Neither),
+    (1, 31, Neither),
+    (1, 32, Both),
+    (35, 31, Neither),
+    (35, 32, Both),
+    (35, 126, Both),
+    (35, 127, Neither),
+    (105, 126, TextOnly),
+    (105, 127, Neither),
+    (35, 0, Neither),
 ];
 
 #[test]
 fn texts(rt: HostRuntime) -> Result<(), Fail> {
-    for line in LINES.iter() {
-        let (len, last, end_to_end, text) = match *line {
-            Line::Both(len, last) => (len, last, true, true),
-            Line::TextOnly(len, last) => (len, last, false, true),
-            Line::Neither(len, last) => (len, last, false, false),
-        };
+    for (len, last, fits) in LINES.iter() {
         let mut whole = [65; 106];
-        let len = len.min(106);
-        if len > 0 {
-            whole[len - 1] = last;
+        let bytes = &mut whole[..(*len).min(106)];
+        if let Some(byte) = bytes.last_mut() {
+            *byte = *last;
         }
-        let bytes = &whole[0..len];
-        match EndToEnd::read(bytes) {
-            Some(read) => assert!(rt; end_to_end && same_bytes(read.bytes(), bytes)),
-            None => assert!(rt; !end_to_end),
-        }
-        match Text::read(bytes) {
-            Some(read) => assert!(rt; text && same_bytes(read.bytes(), bytes)),
-            None => assert!(rt; !text),
-        }
+        let end_to_end = EndToEnd::read(bytes);
+        assert_eq!(rt;
+            end_to_end.as_ref().map(|text| text.bytes()),
+            (*fits == Both).then_some(&*bytes)
+        );
+        let text = Text::read(bytes);
+        assert_eq!(rt;
+            text.as_ref().map(|text| text.bytes()),
+            (*fits != Neither).then_some(&*bytes)
+        );
     }
     Ok(())
 }
@@ -270,26 +245,17 @@ const REFERENCES: [Case; 7] = [
 #[test]
 fn codes(rt: HostRuntime) -> Result<(), Fail> {
     for case in MEMBER_CODES.iter() {
-        match MemberCode::read(case.bytes()) {
-            Some(code) => case.expect(&rt, Some(&code.bytes))?,
-            None => case.expect(&rt, None)?,
-        }
+        case.expect(&rt, MemberCode::read(case.bytes()).map(|code| code.bytes))?;
     }
     for case in SHORT_CODES.iter() {
-        match ReasonCode::read(case.bytes()) {
-            Some(code) => case.expect(&rt, Some(&code.bytes))?,
-            None => case.expect(&rt, None)?,
-        }
-        match StatusCode::read(case.bytes()) {
-            Some(code) => case.expect(&rt, Some(&code.bytes))?,
-            None => case.expect(&rt, None)?,
-        }
+        case.expect(&rt, ReasonCode::read(case.bytes()).map(|code| code.bytes))?;
+        case.expect(&rt, StatusCode::read(case.bytes()).map(|code| code.bytes))?;
     }
     for case in REFERENCES.iter() {
-        match Uetr::read(case.bytes()) {
-            Some(reference) => case.expect(&rt, Some(&reference.bytes))?,
-            None => case.expect(&rt, None)?,
-        }
+        case.expect(
+            &rt,
+            Uetr::read(case.bytes()).map(|reference| reference.bytes),
+        )?;
     }
     Ok(())
 }
@@ -311,18 +277,14 @@ const IDENTIFIERS: [Case; 11] = [
 
 #[test]
 fn identifiers(rt: HostRuntime) -> Result<(), Fail> {
-    let sender = member(b"300001")?;
-    let other = member(b"300002")?;
-    let day = date(b"20240301")?;
-    let next = date(b"20240302")?;
+    let (sender, other): (MemberCode, MemberCode) = (fit(b"300001")?, fit(b"300002")?);
+    let (day, next): (Date, Date) = (fit(b"20240301")?, fit(b"20240302")?);
     for case in IDENTIFIERS.iter() {
-        match Identifier::read(case.bytes()) {
-            Some(id) => {
-                case.expect(&rt, Some(&id.bytes))?;
-                assert!(rt; id.begins_with(&sender) && !id.begins_with(&other));
-                assert!(rt; id.dated(&day) && !id.dated(&next));
-            }
-            None => case.expect(&rt, None)?,
+        let read = Identifier::read(case.bytes());
+        case.expect(&rt, read.map(|id| id.bytes))?;
+        if let Some(id) = read {
+            assert!(rt; id.begins_with(&sender) && !id.begins_with(&other));
+            assert!(rt; id.dated(&day) && !id.dated(&next));
         }
     }
     Ok(())
