@@ -81,6 +81,7 @@ pub(crate) fn answer_question<B: CaseBook>(
 fn show_cases<B: CaseBook>(out: &mut Answers, book: &B) -> Result<(), AllocError>
     requires { B.sound book.now }
 {
+    // By their places, since the interface of a book has no iterator.
     for at in 0..book.count() {
         if let Some(case) = book.case_at(at) {
             out.answer(
