@@ -136,7 +136,8 @@ pub fn judge(block: &[u8; BLOCK]) -> Result<(), BlockFault>
     Ok(())
 }
 
-/// The value of the first field with this tag, in any bytes; of a block that reads, the value of that tag.
+/// The value of the first field with this tag, in any bytes; of a block that reads, the value of that tag. The tag is any
+/// number: a `Tag` would ask more of callers.
 pub fn value(bytes: &[u8], tag: u8) -> Option<&[u8]>
     ensures found { option_map (λ x. x.now) result ≡ value_of tag (fields_of bytes.now) }
     ensures read { (fs : List FieldValue) → Block bytes.now → reading bytes.now ≡ Ok fs → option_map (λ x. x.now) result ≡ value_of tag fs }

@@ -47,7 +47,7 @@ impl<'a> BlockWriter<'a> {
         BlockWriter { block, last: 0 }
     }
 
-    /// Puts a field behind the others, or refuses it and changes nothing.
+    /// Puts a field behind the others, or refuses it and changes nothing. The tag is any number: a `Tag` would ask more of callers.
     pub fn put(&mut self, tag: u8, value: &[u8]) -> Result<(), FieldRefusal>
         ensures answer { result ≡ put_answer (last_tag 0 (written self.old)) tag (length value.now) }
         ensures fields { MatchResult result (λ _. written self.new ≡ written self.old ++ record { tag = tag; value = value.now } ∷ []) (λ _. self.new ≡ self.old) }

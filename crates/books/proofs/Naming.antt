@@ -1,11 +1,11 @@
 -- Names that are apart, and where a name stands.
-use Rattle.std.proofs.Common.{◌≡◌, false, List, [], ◌∷◌, ◌++◌, is_some, sym, subst}
+use Rattle.std.proofs.Common.{◌≡◌, ℕ, false, List, [], ◌∷◌, ◌++◌, is_some, sym, refl, subst}
 use Rattle.std.specs.List.{AllByRecursion}
 use Rattle.std.proofs.ByRecursion.{All-push, All-map}
 use Rattle.std.proofs.lemmas.List.{map_push}
-use Rattle.table.proofs.Bridges.{place_missed}
-use Rattle.cases.specs.Cases.{NameValue, CaseValue, same_name}
-use Rattle.books.specs.Books.{has_name, place_of, names, Apart}
+use Rattle.table.proofs.Bridges.{place_missed, map-alter}
+use Rattle.cases.specs.Cases.{NameValue, StateValue, CaseValue, same_name, with_state}
+use Rattle.books.specs.Books.{has_name, place_of, changed, names, Apart}
 
 apart-push : (ns : List NameValue) (n : NameValue) → Apart ns → AllByRecursion (λ m. same_name m n ≡ false) ns → Apart (ns ++ n ∷ [])
 apart-push [] n a h = (tt, tt)
@@ -18,3 +18,7 @@ names_differ n cs h = All-map (λ m. same_name m n ≡ false) (λ (c : CaseValue
 -- names stay apart when a case is added whose name is not found
 pub apart_more : (cs : List CaseValue) (c : CaseValue) → Apart (names cs) → is_some (place_of c.name cs) ≡ false → Apart (names (cs ++ c ∷ []))
 apart_more cs c a h = subst Apart (sym (map_push (λ (k : CaseValue). k.name) cs c)) (apart-push (names cs) c.name a (names_differ c.name cs h))
+
+-- and when the state of one is changed
+pub apart_changed : (i : ℕ) (t : StateValue) (cs : List CaseValue) → Apart (names cs) → Apart (names (changed i t cs))
+apart_changed i t cs a = subst Apart (sym (map-alter (λ (k : CaseValue). k.name) (with_state t) cs i (λ k. refl))) a

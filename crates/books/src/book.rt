@@ -78,6 +78,7 @@ pub trait CaseBook {
         ensures cases { cases self.new ≡ with_case_named (name_view name.now) (state_view state) (cases self.old) }
     {
         if let Some(at) = self.find(name) {
+            // A case stands at the place that was found, so this is not refused.
             let _ = self.change(at, state);
         }
     }

@@ -82,7 +82,7 @@ pub(crate) fn answer_question<B: CaseBook>(
 fn show_cases<B: CaseBook>(out: &mut Answers, book: &B) -> Result<(), AllocError>
     requires { B.sound book.now }
 {
-    for (case, at) in Cases::of(book).zip(0u64..) {
+    for (at, case) in Cases::of(book).enumerate() {
         out.answer(
             format_args!("case: {at} {}", Listed(&case)),
             format_args!("the case at place {at} is {}", state_name(case.state)),

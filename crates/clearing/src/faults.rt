@@ -3,7 +3,7 @@ ghost use Rattle.std.specs.Prelude.{◌≡◌};
 ghost use Rattle.clearing.specs.declared.faults.LineFault.TheVariants.{Expected};
 ghost use Rattle.clearing.specs.declared.faults.ScriptError.TheVariants.{Memory, Line};
 
-use crate::names::Name;
+use crate::names::{FieldNames, Name};
 use std::alloc::{AllocError, AllocFailed};
 use std::fmt;
 use tags::faults::FieldRefusal;
@@ -19,7 +19,7 @@ pub(crate) enum LineFault {
     UnclosedQuote,
     #[error("unknown escape: expected \\\", \\\\ or \\x and two hex digits")]
     UnknownEscape,
-    #[error("unknown field: expected kind, identifier, creation-date, assigner, assignee, number, original-kind, original-identifier, debtor-agent, verdict, code, state, closing-identifier, uetr, end-to-end, amount, status, reason, text or creditor-agent")]
+    #[error("unknown field: expected {names}", names = FieldNames)]
     UnknownField,
     #[error("{name} takes a number from 0 to {1}", name = .0.text)]
     NotANumber(Name, u64),
@@ -114,6 +114,7 @@ pub(crate) enum ScriptError {
     Line(LineFault),
 }
 
+// By hand, since the promise on lines that make no sense names the error that a `?` makes of another.
 impl From<AllocError> for ScriptError {
     ghost from_gives = { λ _ r. r ≡ Memory };
 

@@ -8,6 +8,8 @@ use block::{BLOCK, BODY};
 /// The zeros up to the check of a block.
 const ZEROS: [u8; BODY] = [0; BODY];
 
+// Two functions, since each promises the definition of its own digits.
+
 /// What a hex digit stands for.
 pub(crate) fn hex_digit(byte: u8) -> Option<u32>
     ensures value { result ≡ hex_digit byte }

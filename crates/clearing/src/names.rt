@@ -1,4 +1,5 @@
 //! The names of the fields, as scripts write them and as the program prints them.
+use std::fmt;
 use tags::listing::Tag;
 
 /// A field's name and what it means.
@@ -123,4 +124,21 @@ pub(crate) fn named(text: &[u8]) -> Option<Name> {
 /// The name of the field with this tag, if there is one.
 pub(crate) fn name_of(tag: u8) -> Option<Name> {
     NAMES.iter().find(|name| name.tag.number() == tag).copied()
+}
+
+/// The names of all fields, as a message lists them.
+#[derive(Clone, Copy)]
+pub(crate) struct FieldNames;
+
+impl fmt::Display for FieldNames {
+    fn fmt<W: fmt::Write>(&self, f: &mut fmt::Formatter<W>) -> fmt::Result {
+        let [first, between @ .., last] = NAMES.as_slice() else {
+            return Ok(());
+        };
+        f.write_str(first.text)?;
+        for name in between {
+            write!(f, ", {}", name.text)?;
+        }
+        write!(f, " or {}", last.text)
+    }
 }

@@ -7,7 +7,7 @@ use Rattle.table.proofs.Bridges.{any_place, nth_beyond, place_map, any-map, alte
 use Rattle.cases.specs.Cases.{StateValue, CaseValue}
 use Rattle.books.specs.Books.{stands, place_of, changed}
 use Rattle.books.specs.Refusals.{of_table, open_answer}
-use Rattle.books.proofs.Naming.{apart_more}
+use Rattle.books.proofs.Naming.{apart_more, apart_changed}
 use Rattle.rows.specs.declared.RowsBook.{RowsBook}
 use Rattle.rows.specs.Rows.{cases_of, room_of, Sound}
 
@@ -35,4 +35,4 @@ module _ (a b : RowsBook) (s : Sound a) (room : room_of b ≡ room_of a) where
 
   -- with a case in another state
   pub sound_changed : (i : ℕ) (t : StateValue) → cases_of b ≡ changed i t (cases_of a) → Sound b
-  sound_changed i t e = record { apart = rw (e, map-alter) s.apart; fit = rw room s.fit }
+  sound_changed i t e = record { apart = rw e (apart_changed i t (cases_of a) s.apart); fit = rw room s.fit }

@@ -2,6 +2,6 @@ use Rattle.std.proofs.Common.{refl}
 use Rattle.block.specs.Reading.{layout}
 use Rattle.block.proofs.fields.Fields.of.Goals as goal
 
-pub returns : goal.returns
+pub returns-clause-fields : goal.returns-clause-fields
 unfolding layout
-returns c = record { fields = refl; block = refl; start = refl }
+returns-clause-fields c = refl
