@@ -96,55 +96,31 @@ fn days_before(rt: HostRuntime) -> Result<(), Fail> {
     Ok(())
 }
 
-/// A number of kopecks, and whether it is an amount.
-#[derive(Clone, Copy)]
-struct Sum {
-    kopecks: u64,
-    bytes: [u8; 8],
-    fit: bool,
-}
-
-const SUMS: [Sum; 6] = [
-    Sum {
-        kopecks: 0,
-        bytes: [0; 8],
-        fit: false,
-    },
-    Sum {
-        kopecks: 1,
-        bytes: [0, 0, 0, 0, 0, 0, 0, 1],
-        fit: true,
-    },
-    Sum {
-        kopecks: 256,
-        bytes: [0, 0, 0, 0, 0, 0, 1, 0],
-        fit: true,
-    },
-    Sum {
-        kopecks: 999_999_999_999_999,
-        bytes: [0x00, 0x03, 0x8d, 0x7e, 0xa4, 0xc6, 0x7f, 0xff],
-        fit: true,
-    },
-    Sum {
-        kopecks: 1_000_000_000_000_000,
-        bytes: [0x00, 0x03, 0x8d, 0x7e, 0xa4, 0xc6, 0x80, 0x00],
-        fit: false,
-    },
-    Sum {
-        kopecks: u64::MAX,
-        bytes: [255; 8],
-        fit: false,
-    },
+/// Numbers of kopecks, the bytes of each, and whether it is an amount.
+const SUMS: [(u64, [u8; 8], bool); 6] = [
+    (0, [0; 8], false),
+    (1, [0, 0, 0, 0, 0, 0, 0, 1], true),
+    (256, [0, 0, 0, 0, 0, 0, 1, 0], true),
+    (
+        999_999_999_999_999,
+        [0x00, 0x03, 0x8d, 0x7e, 0xa4, 0xc6, 0x7f, 0xff],
+        true,
+    ),
+    (
+        1_000_000_000_000_000,
+        [0x00, 0x03, 0x8d, 0x7e, 0xa4, 0xc6, 0x80, 0x00],
+        false,
+    ),
+    (u64::MAX, [255; 8], false),
 ];
 
 #[test]
 fn amounts(rt: HostRuntime) -> Result<(), Fail> {
-    for sum in SUMS.iter() {
-        assert_eq!(rt; Amount::new(sum.kopecks).is_some(), sum.fit);
-        let read = Amount::read(&sum.bytes);
+    for (kopecks, bytes, fit) in SUMS.iter() {
+        assert_eq!(rt; Amount::new(*kopecks).is_some(), *fit);
         assert_eq!(rt;
-            read.map(|amount| (amount.kopecks, amount.bytes())),
-            sum.fit.then_some((sum.kopecks, sum.bytes))
+            Amount::read(bytes).map(|amount| (amount.kopecks, amount.bytes())),
+            fit.then_some((*kopecks, *bytes))
         );
     }
     assert!(rt; Amount::read(&[0, 0, 0, 0, 0, 0, 1]).is_none());
