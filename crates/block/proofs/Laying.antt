@@ -21,20 +21,6 @@ padded-push n e x h =
     ∙ ap (λ k. replicate k 0) (simp length-append (omega arith)) in
     rw (take_at e (replicate (n - length e) 0) (length e) refl) (ap (λ y. (e ++ x) ++ y) d)
 
--- the writes of `lay`, together
-pub laid_bytes : (b v ys : List ℕ) (at t k : ℕ) → at + (2 + length v) ≤ length b → k ≡ length v → ys ≡ v → put_mid (at + 2) k (set (set b at t) (at + 1) (length v)) ys ≡ take at b ++ field_bytes t v ++ drop (at + (2 + length v)) b
-laid_bytes b v ys at t k h e q =
-    let xs = set (set b at t) (at + 1) (length v) in
-    let a2 : (at + 1) + 1 ≡ at + 2 = omega arith in
-    let l1 = length-set b at t in
-    let f : take (at + 2) xs ≡ (take at b ++ t ∷ []) ++ length v ∷ [] =
-    rw (← a2) (take_more_set (set b at t) (at + 1) (length v) (omega arith) ∙ ap (λ y. y ++ length v ∷ []) (take_more_set b at t (omega arith))) in
-    let d : drop k (drop (at + 2) xs) ≡ drop (at + (2 + length v)) b =
-    ap (drop k) (drop-set-lt (at + 2) (set b at t) (at + 1) (length v) (omega arith) ∙ drop-set-lt (at + 2) b at t (omega arith))
-    ∙ drop-drop k (at + 2) b
-    ∙ ap (λ n. drop n b) (omega arith) in
-    ap (put_mid (at + 2) k xs) q ∙ ap (λ y. y ++ (v ++ drop k (drop (at + 2) xs))) f ∙ ap (λ y. ((take at b ++ t ∷ []) ++ length v ∷ []) ++ (v ++ y)) d ∙ simp append_assoc
-
 -- bytes laid within the first of two parts
 laid_within : (p q x : List ℕ) (a : ℕ) → a + length x ≤ length p → take a (p ++ q) ++ x ++ drop (a + length x) (p ++ q) ≡ (take a p ++ x ++ drop (a + length x) p) ++ q
 laid_within p q x a h =

@@ -83,6 +83,7 @@ impl<'a> BlockWriter<'a> {
 }
 
 /// The tag of the last field, which stands at `last`, and where it ends, or zeros where there is none.
+// Zeros and no `Option`: every tag is above 0 and the first field stands at byte 0, so nothing has to be told apart.
 fn last_field(block: &[u8; BLOCK], last: usize) -> (u8, usize)
     requires { Sound block.now last }
     ensures tag { result.0 ≡ last_tag 0 (fields_of block.now) }

@@ -20,6 +20,7 @@ pub trait CaseBook {
 
     ghost room: { Self → ℕ };
 
+    // A condition in each call, and no invariant: a rule of the project, so that a form can hold a book by value.
     ghost sound: { Self → Type 0 };
 
     ghost keeps: { Keeps cases room sound };

@@ -8,8 +8,8 @@ use crate::book::CaseBook;
 use crate::iter::Cases;
 use cases::case::Case;
 
-/// A condition that a case meets or not. It is a trait and no closure, since the promise of `any_case` is an equation in what it
-/// names `met`, and asks nothing of how it is called; who has a closure asks `Cases::of(book).any(..)`.
+/// A condition that a case meets or not. A closure would be no plainer: the promise of `any_case` is an equation in what the
+/// condition names `met`, and asks nothing of how it is called. Who has a closure asks `Cases::of(book).any(..)`.
 pub trait CaseCondition {
     ghost met: { Self → CaseValue → Bool };
 

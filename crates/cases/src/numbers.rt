@@ -11,7 +11,7 @@ use values::kind::Kind;
 
 /// A number that no kind of original has.
 #[derive(Clone, Copy, Debug, PartialEq, Eq)]
-pub struct UnknownOriginal(pub u8);
+pub struct UnknownOriginal;
 
 impl Subject {
     /// The kind of the message that opens such a case: a request or a recall.
@@ -42,7 +42,7 @@ impl TryFrom<u8> for OriginalKind {
             8 => Ok(OriginalKind::CustomerTransfer),
             9 => Ok(OriginalKind::InstitutionTransfer),
             13 => Ok(OriginalKind::Request),
-            _ => Err(UnknownOriginal(number)),
+            _ => Err(UnknownOriginal),
         }
     }
 }

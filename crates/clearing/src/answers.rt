@@ -18,6 +18,7 @@ pub(crate) struct Answers {
 }
 
 impl Answers {
+    /// No answers yet.
     pub(crate) fn new(heap: Global, style: Style) -> Answers {
         Answers {
             text: String::new(heap),
@@ -25,6 +26,7 @@ impl Answers {
         }
     }
 
+    /// All that was answered.
     pub(crate) fn text(&self) -> &str {
         self.text.as_str()
     }

@@ -33,7 +33,7 @@ pub(crate) fn answer_book<T>(
     }
 }
 
-/// What a refusal of a book means.
+/// What a refusal of a book means. The type is another crate's, so a `Display` would need a wrapper and be no plainer.
 fn refusal_meaning(refusal: BookRefusal) -> &'static str {
     match refusal {
         BookRefusal::NoBook => "refused: the memory is not that of a book",
@@ -108,6 +108,7 @@ fn show_totals<B: CaseBook>(out: &mut Answers, book: &B) -> Result<(), AllocErro
     )
 }
 
+/// The name of a state. As with a refusal, a wrapper with a `Display` is no plainer.
 fn state_name(state: State) -> &'static str {
     match state {
         State::Open => "open",

@@ -175,6 +175,7 @@ fn open_case(words: &[Vec<u8>]) -> Result<Question, Wanted> {
     }))
 }
 
+// Kinds are matched as they are written: a number read from the word would take `08` for 8.
 fn subject(kind: &[u8], original_kind: &[u8], word: &[u8]) -> Result<Subject, Wanted> {
     match (kind, original_kind, word) {
         (b"13", b"-", b"-") => Ok(Subject::Request),

@@ -8,7 +8,7 @@ use block::{BLOCK, BODY};
 /// The zeros up to the check of a block.
 const ZEROS: [u8; BODY] = [0; BODY];
 
-// Two functions, since each promises the definition of its own digits.
+// Two functions: each promises the definition of its own digits, so one over the radix is no plainer.
 
 /// What a hex digit stands for.
 pub(crate) fn hex_digit(byte: u8) -> Option<u32>

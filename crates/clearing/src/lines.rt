@@ -21,6 +21,7 @@ fn line_end(bytes: &[u8]) -> usize
 }
 
 impl<'a> Lines<'a> {
+    /// All lines of a script.
     pub(crate) fn of(script: &'a [u8]) -> Lines<'a> {
         Lines {
             rest: script,

@@ -29,7 +29,7 @@ fn bounded(count: u64) -> usize
     usize::try_from(count).map_or(MOST + 1, |count| count.min(MOST + 1))
 }
 
-// One function for each form: over a type parameter for the book they would be no shorter.
+// One function for each form: over a type parameter for the book they would be no plainer.
 impl Memory {
     /// The rows of an empty book.
     fn rows(mut rows: Vec<Case>) -> Result<Memory, BookRefusal> {

@@ -113,6 +113,8 @@ const NAMES: [Name; 20] = [
     },
 ];
 
+// Two functions, by two keys: one over a closure for the key is no plainer.
+
 /// The field that is called so, if there is one.
 pub(crate) fn named(text: &[u8]) -> Option<Name> {
     NAMES

@@ -18,6 +18,7 @@ pub(crate) struct Session {
 }
 
 impl Session {
+    /// A session with no block yet.
     pub(crate) fn new(heap: Global) -> Session {
         Session {
             blocks: Vec::new(heap),

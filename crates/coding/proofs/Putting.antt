@@ -15,9 +15,6 @@ Legal-append : (p : ℕ) (fs gs : List FieldValue) → Legal p (fs ++ gs) → Le
 Legal-append p [] gs l = (tt, l)
 Legal-append p (f ∷ fs) gs l = let r = Legal-append f.tag fs gs l.2 in ((l.0, l.1, r.0), r.1)
 
-pub puts_none : (w : BlockWriter) → Puts w [] w
-puts_none w = record { fields = λ l. sym (append-nil (written w)); named = refl }
-
 pub puts_both : (w v u : BlockWriter) (fs gs : List FieldValue) → Puts w fs v → Puts v gs u → Puts w (fs ++ gs) u
 puts_both w v u fs gs a b =
     record {

@@ -19,10 +19,6 @@ use Rattle.coding.specs.CaseFields.{original_fields, closing_fields, state_field
 pub identifier_length : (bs : List ℕ) → identifier bs ≡ true → length bs ≡ 20
 identifier_length bs e = ⊎_elim (λ (h : length bs ≡ 20). h) (λ (h : length bs ≡ 20 → ⊥). absurd (true≢false (sym e ∙ wrong_length bs h))) (cases_eq (length bs) 20)
 
--- a length that is the first thing asked of a value
-first_asked : (bs : List ℕ) (n m : ℕ) → eqb (length bs) n ≡ true → n ≡ m → length bs ≡ m
-first_asked bs n m e h = eqb-true (length bs) n e ∙ h
-
 -- Listed with their lengths.
 
 known : (t n : ℕ) → admitted (rule_of t) n ≡ true → listed t n ≡ true

@@ -23,6 +23,7 @@ use values::kind::Kind;
 fn put(writer: &mut BlockWriter<'_>, tag: Tag, value: &[u8])
     ensures { Puts writer.old (field (number_of tag) value.now ∷ []) writer.new }
 {
+    // What may not stand is refused and changes nothing; that all fields of a case may stand is shown of `case_block`.
     let _ = writer.put(tag.number(), value);
 }
 

@@ -93,6 +93,7 @@ pub fn decode(message: &ReadMessage<'_>) -> Option<Content>
     ensures total { is_some result ≡ is_ok (read_message message.now.bytes.now) }
 {
     let bytes = message.bytes();
+    // Two arms, as plain as a `?`: what was read is let go, and its bytes are read on.
     match read(bytes) {
         Ok(_) => read_blocks(bytes.as_chunks::<BLOCK>().0),
         Err(_) => None,

@@ -6,4 +6,4 @@ mod fitness;
 pub mod read;
 pub mod refusal;
 mod scan;
-pub mod shapes;
+mod shapes;

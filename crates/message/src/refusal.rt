@@ -26,6 +26,7 @@ impl fmt::Display for Layer {
 }
 
 /// Why bytes are refused, by the check that refuses them, and where the fault stands.
+// A tag is given by its number, as reading is defined and as a refusal is printed: a `Tag` would be turned into it by each user.
 #[derive(Clone, Copy, Debug, PartialEq, Eq)]
 pub enum Refusal {
     /// The bytes are not 1 to 17 whole blocks.

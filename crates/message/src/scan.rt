@@ -18,6 +18,7 @@ use tags::listing::Tag;
 
 /// What is found in a block whose layout holds: the lowest tag that is missing or out of place, and the lowest whose
 /// value is unfit.
+// Tags by their numbers, as refusals have them.
 #[derive(Clone, Copy, Debug, Default, PartialEq, Eq)]
 pub(crate) struct Found {
     pub tags: Option<u8>,

@@ -1,4 +1,4 @@
-//! Bytes: comparing them, and judging them by the characters that they stand for.
+//! Bytes: comparing them, judging them by the characters that they stand for, and reading values from them.
 #![tactic(auto)]
 
 pub mod readable;

@@ -5,12 +5,16 @@ ghost use Rattle.octets.specs.Bytes.{kept, read_byte, read_pair};
 
 /// A value that is read from bytes.
 pub trait Readable: Copy {
+    // What contracts see of a value.
     ghost Meaning: { Type 0 };
 
+    // What a value means.
     ghost meaning: { Self → Meaning };
 
+    // What bytes are read as, if they are fit.
     ghost reading: { List ℕ → Option Meaning };
 
+    // The bytes of a meaning.
     ghost writing: { Meaning → List ℕ };
 
     /// The value that the bytes are, if they are fit. No other bytes are the value.

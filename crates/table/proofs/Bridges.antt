@@ -55,13 +55,6 @@ module _ {X : Type 0} where
       let same : get_or xs i x ≡ x = let s = slice_get-get_or xs i x h in cc in
       drop_more xs i x h ∙ ap (λ y. y ∷ drop (i + 1) xs) same
 
-  -- what stands up to a place ends with what stands there
-  pub take_nth : (xs : List X) (i : ℕ) (x : X) → slice_get xs i ≡ Some x → take (i + 1) xs ≡ take i xs ++ x ∷ []
-  take_nth xs i x e =
-      let h : i < length xs = slice_get_within xs i x e in
-      let same : get_or xs i x ≡ x = let s = slice_get-get_or xs i x h in cc in
-      take_more xs i x h ∙ ap (λ y. take i xs ++ y ∷ []) same
-
 -- From the test to the place: what stands at the place found is the first that passes, and altering there alters it.
 
 at_suc : {X : Type 0} (x : X) (xs : List X) (o : Option ℕ) → at_place (x ∷ xs) (option_map suc o) ≡ at_place xs o
@@ -113,14 +106,6 @@ module _ {X Y : Type 0} (view : X → Y) where
   pub any-map : (test : Y → Bool) (xs : List X) → any test (map view xs) ≡ any (λ x. test (view x)) xs
   any-map test [] = refl
   any-map test (x ∷ xs) = ap (λ b. test (view x) || b) (any-map test xs)
-
-  pub first-map : (test : Y → Bool) (xs : List X) → first test (map view xs) ≡ option_map view (first (λ x. test (view x)) xs)
-  first-map test [] = refl
-  first-map test (x ∷ xs) = go (test (view x)) (first-map test xs)
-    where
-      go : (b : Bool) → first test (map view xs) ≡ option_map view (first (λ y. test (view y)) xs) → cond b (Some (view x)) (first test (map view xs)) ≡ option_map view (cond b (Some x) (first (λ y. test (view y)) xs))
-      go true e = refl
-      go false e = e
 
   -- an element that is replaced, seen through the view
   pub alter-map : (f : Y → Y) (xs : List X) (i : ℕ) (old x : X) → slice_get xs i ≡ Some old → view x ≡ f (view old) → map view (set xs i x) ≡ alter_at i f (map view xs)

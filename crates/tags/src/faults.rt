@@ -27,6 +27,7 @@ impl BlockFault {
     pub fn number(self) -> u8
         ensures { result ≡ fault_number self }
     {
+        // A fault that holds a place has no number of its own to cast.
         match self {
             BlockFault::WrongCheck => 2,
             BlockFault::BrokenLayout(_) => 3,
@@ -49,6 +50,7 @@ impl FieldRefusal {
     pub fn number(self) -> u8
         ensures { result ≡ refusal_number self }
     {
+        // All three have one number, so none can be the enum's own.
         match self {
             FieldRefusal::UnlistedTag | FieldRefusal::UnlistedLength | FieldRefusal::NotRising =>
                 49,

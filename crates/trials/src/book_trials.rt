@@ -88,34 +88,65 @@ fn case(number: u8, state: State) -> Result<Case, Fail> {
     })
 }
 
-/// The statuses, each with the state that it makes of a case that is not closed.
-const STATUSES: [(Status, Stage); 6] = [
-    (Status::Accepted, Agreed),
-    (Status::Rejected, Declined),
-    (Status::Pending, Pending),
-    (Status::AcceptedCancellation, Agreed),
-    (Status::RejectedCancellation, Declined),
-    (Status::PendingCancellation, Pending),
+const STATUSES: [Status; 6] = [
+    Status::Accepted,
+    Status::Rejected,
+    Status::Pending,
+    Status::AcceptedCancellation,
+    Status::RejectedCancellation,
+    Status::PendingCancellation,
+];
+
+/// A state, that after each of the statuses, and that after a withdrawal.
+#[derive(Clone, Copy)]
+struct Answer(Stage, [Option<Stage>; 6], Option<Stage>);
+
+const ANSWERS: [Answer; 5] = [
+    Answer(
+        Open,
+        [
+            Some(Agreed),
+            Some(Declined),
+            Some(Pending),
+            Some(Agreed),
+            Some(Declined),
+            Some(Pending),
+        ],
+        Some(Withdrawn),
+    ),
+    Answer(
+        Pending,
+        [
+            Some(Agreed),
+            Some(Declined),
+            Some(Pending),
+            Some(Agreed),
+            Some(Declined),
+            Some(Pending),
+        ],
+        Some(Withdrawn),
+    ),
+    Answer(Agreed, [None; 6], None),
+    Answer(Declined, [None; 6], None),
+    Answer(Withdrawn, [None; 6], None),
 ];
 
 #[test]
 fn answers(rt: HostRuntime) -> Result<(), Fail> {
     let (closing, later) = (fit(CLOSING)?, fit(LATER)?);
-    for stage in STAGES {
-        let closed = stage != Open && stage != Pending;
+    for Answer(stage, after, withdrawn) in ANSWERS {
         let case = case(1, stage.state(closing))?;
-        for (status, next) in STATUSES.iter() {
-            let expected = (!closed).then_some(next.state(later));
+        for (status, next) in STATUSES.iter().zip(after) {
             assert!(rt;
-                case.after(*status, later) == expected,
+                case.after(*status, later) == next.map(|next| next.state(later)),
                 "in state {stage:?}"
             );
         }
-        let expected = (!closed).then_some(State::Withdrawn(later));
         assert!(rt;
-            case.after_withdrawal(later) == expected,
+            case.after_withdrawal(later) == withdrawn.map(|next| next.state(later)),
             "in state {stage:?}"
         );
+        let closed = stage != Open && stage != Pending;
         assert_eq!(rt; case.state.is_closed(), closed, "in state {stage:?}");
     }
     Ok(())

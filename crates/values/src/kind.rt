@@ -18,7 +18,7 @@ pub enum Kind {
 
 /// A number that no kind of message has.
 #[derive(Clone, Copy, Debug, PartialEq, Eq)]
-pub struct UnknownKind(pub u8);
+pub struct UnknownKind;
 
 impl TryFrom<u8> for Kind {
     type Error = UnknownKind;
@@ -31,7 +31,7 @@ impl TryFrom<u8> for Kind {
             14 => Ok(Kind::Report),
             29 => Ok(Kind::Reply),
             56 => Ok(Kind::Recall),
-            _ => Err(UnknownKind(number)),
+            _ => Err(UnknownKind),
         }
     }
 }

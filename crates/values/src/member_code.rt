@@ -6,6 +6,7 @@ use octets::readable::Readable;
 use octets::{Alphabet, read_exactly};
 
 /// The code of a member: six ASCII digits.
+// A type of its own, as a status and a reason are: what the codes share is `read_exactly`.
 #[derive(Clone, Copy, PartialEq, Eq)]
 pub struct MemberCode {
     pub bytes: [u8; 6],

@@ -6,8 +6,8 @@ use octets::readable::Readable;
 use octets::{Alphabet, read_exactly};
 
 /// The reason of a transaction: four characters, each a capital letter or a digit.
-// A type of its own, so that no reason is taken for a status. A code that is generic over its form can't derive `Clone` beside a
-// ghost field, so what the codes share is `read_exactly`.
+// A type of its own, so that no reason is taken for a status. One code over a type parameter for its form was tried: beside a
+// type parameter and a ghost field `Clone` can't be derived. So what the codes share is `read_exactly`.
 #[derive(Clone, Copy, PartialEq, Eq)]
 pub struct ReasonCode {
     pub bytes: [u8; 4],

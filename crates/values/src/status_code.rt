@@ -6,7 +6,7 @@ use octets::readable::Readable;
 use octets::{Alphabet, read_exactly};
 
 /// The status of a transaction: four characters, each a capital letter or a digit.
-// A type of its own, as is the reason.
+// A type of its own, so that no status is taken for a reason; what the codes share is `read_exactly`.
 #[derive(Clone, Copy, PartialEq, Eq)]
 pub struct StatusCode {
     pub bytes: [u8; 4],
