@@ -1,7 +1,6 @@
 -- Bytes cut into blocks.
-use Rattle.std.proofs.Common.{◌≡◌, ℕ, suc, ◌-◌, ◌/◌, ◌<◌, ◌≤◌, min, List, [], ◌∷◌, length, take, drop, sym, ap, ◌∙◌, ⊎_elim, arith}
-use Rattle.std.proofs.lemmas.List.{length-drop, take_all}
-use Rattle.std.proofs.lemmas.Bool.{cases_lt}
+use Rattle.std.proofs.Common.{◌≡◌, ℕ, suc, ◌/◌, ◌≤◌, List, ◌∷◌, length, take, drop, ap, arith}
+use Rattle.std.proofs.lemmas.List.{length-drop}
 use Rattle.block.specs.Cutting.{blocks, blocks_of}
 
 pub blocks_of-more : (xs : List ℕ) → 512 ≤ length xs → blocks_of xs ≡ take 512 xs ∷ blocks_of (drop 512 xs)

@@ -1,7 +1,6 @@
 -- What the writer makes of the bytes of its block.
-use Rattle.std.proofs.Common.{◌≡◌, ℕ, ◌+◌, ◌-◌, ◌≤◌, List, [], ◌∷◌, ◌++◌, length, take, drop, set, replicate, sym, refl, ap, ◌∙◌, arith}
-use borrow.Rule.Slice.PartMut.{put_mid}
-use Rattle.std.proofs.lemmas.List.{append_assoc, length-append, length-replicate, take_at, drop_at, drop-replicate, drop-drop, length-set, take_more_set, drop-set-lt, take-append-le, drop-append-le}
+use Rattle.std.proofs.Common.{◌≡◌, ℕ, ◌+◌, ◌-◌, ◌≤◌, List, [], ◌∷◌, ◌++◌, length, take, drop, replicate, sym, refl, ap, ◌∙◌, arith}
+use Rattle.std.proofs.lemmas.List.{append_assoc, length-append, length-replicate, take_at, drop_at, drop-replicate, drop-drop, take-append-le, drop-append-le}
 use Rattle.block.specs.Fields.{FieldValue, Legal, encoded}
 use Rattle.block.specs.Block.{padded, closed, block_of}
 use Rattle.block.proofs.Encoding.{field_bytes, encoded-push, encoded_bound}

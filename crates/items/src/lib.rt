@@ -22,5 +22,12 @@ pub fn item<V: Readable>(block: &[u8], tag: Tag) -> Option<V>
 pub fn optional_item<V: Readable>(block: &[u8], tag: Tag) -> Option<Option<V>>
     ensures { option_map (option_map V.meaning) result ≡ optional_item_in V.reading (number_of tag) (fields_of block.now) }
 {
-    value(block, tag.number()).map_or(Some(None), |bytes| V::read(bytes).map(Some))
+    // `map_or` over a closure that reads was tried, and the check found no proof of it.
+    match value(block, tag.number()) {
+        Some(bytes) => {
+            let value = V::read(bytes)?;
+            Some(Some(value))
+        }
+        None => Some(None),
+    }
 }
