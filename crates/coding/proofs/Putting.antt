@@ -1,6 +1,6 @@
 -- Fields put one behind the other.
 use Rattle.std.proofs.Common.{◌≡◌, ℕ, List, [], ◌∷◌, ◌++◌, sym, refl, ap, ◌∙◌, subst}
-use Rattle.std.proofs.lemmas.List.{append_assoc, append-nil}
+use Rattle.std.proofs.lemmas.List.{append_assoc}
 use Rattle.block.specs.declared.writer.BlockWriter.{BlockWriter}
 use Rattle.block.specs.Fields.{FieldValue, Legal, last_tag}
 use Rattle.block.specs.Writer.{written}
