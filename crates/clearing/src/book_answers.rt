@@ -1,4 +1,4 @@
-//! Answering questions about a book.
+//! Answering questions about a book. Answers are lines with their meanings, which not every style shows, so they are no `Display`.
 ghost use Rattle.std.specs.Prelude.{◌≡◌, IfOk};
 ghost use Rattle.image.specs.Image.{image};
 ghost use Rattle.clearing.specs.Lines.{NothingDone};

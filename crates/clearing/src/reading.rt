@@ -1,4 +1,5 @@
-//! Reading bytes as a message, and printing what it holds or why they are refused.
+//! Reading bytes as a message, and printing what it holds or why they are refused. What is printed are lines with their meanings, which
+//! not every style shows, so they are answers and no `Display`.
 use crate::answers::Answers;
 use crate::names::name_of;
 use crate::shown::Value;

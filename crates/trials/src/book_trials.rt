@@ -380,6 +380,8 @@ fn sizes(rt: HostRuntime) -> Result<(), Fail> {
     Ok(())
 }
 
+// A line each: one function over what is called and what is counted would be no plainer.
+
 /// How many cases there is room for in an empty book over bytes.
 fn emptied(bytes: &mut [u8]) -> Result<usize, BookRefusal> {
     Ok(ImageBook::new(bytes)?.capacity())

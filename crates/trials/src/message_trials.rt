@@ -105,7 +105,8 @@ impl Change {
     }
 }
 
-/// What comes of reading bytes: they read, or they are refused with this number, at this block and place.
+/// What comes of reading bytes: they read, or they are refused with this number, at this block and place. The numbers are what is
+/// tried, so a `Refusal` in their place would be no plainer.
 type Outcome = Result<(), (u8, u8, u16)>;
 
 /// A correct message of a kind and of so many blocks, but for the changes.

@@ -163,6 +163,7 @@ fn texts(rt: HostRuntime) -> Result<(), Fail> {
         if let Some(byte) = bytes.last_mut() {
             *byte = *last;
         }
+        // Two readings written out: one function over the width would need a bound on it.
         let end_to_end = EndToEnd::read(bytes);
         assert_eq!(rt;
             end_to_end.as_ref().map(|text| text.bytes()),
