@@ -46,8 +46,6 @@ impl<'a, R> Model for Table<'a, R> {
     ghost Value = { TableValue R };
 
     ghost view = { λ t. record { rows = take t.count t.rows.now; free = length t.rows.now - t.count } };
-
-    ghost invariant = { λ t. t.count ≤ length t.rows.now };
 }
 
 /// The place of the first row of this name.
@@ -85,7 +83,7 @@ impl<'a, R: Row> Table<'a, R> {
     fn standing(&self) -> &[R]
         ensures { result.now ≡ self.now.rows }
     {
-        &self.rows[..self.count]
+        &self.rows[..self.count.min(self.rows.len())]
     }
 
     /// The row at a place.
@@ -124,7 +122,7 @@ impl<'a, R: Row> Table<'a, R> {
         ensures answer { result ≡ add_answer (length self.old.rows) (limit_of self.old) }
         ensures rows { self.new.rows ≡ (if is_ok result then self.old.rows ++ row ∷ [] else self.old.rows) }
     {
-        if self.count == self.rows.len() {
+        if self.count >= self.rows.len() {
             return Err(TableRefusal::Full);
         }
         self.rows[self.count] = row;
@@ -138,7 +136,7 @@ impl<'a, R: Row> Table<'a, R> {
         ensures answer { result ≡ replace_answer at (length self.old.rows) }
         ensures rows { self.new.rows ≡ slice_set self.old.rows at row }
     {
-        if at >= self.count {
+        if at >= self.count.min(self.rows.len()) {
             return Err(TableRefusal::NoRow);
         }
         self.rows[at] = row;
