@@ -253,6 +253,8 @@ const STEPS: [Step; 15] = [
     Step(Call::Set(1, Declined), Ok(()), [0, 0, 1, 1, 0]),
 ];
 
+// The numbers are what is tried, so a `BookRefusal` in the tables would be no plainer.
+
 /// The answer, or the number of the refusal.
 fn numbered<T: Copy>(answer: Result<T, BookRefusal>) -> Result<T, u8> {
     answer.map_err(|refusal| refusal.number())
