@@ -16,12 +16,13 @@ each_made : {X Y : Type 0} (P : Y → Type 0) (f : X → Y) (xs : List X) → Al
 each_made P f [] a = tt
 each_made P f (x ∷ xs) a = (a.0, each_made P f xs a.1)
 
-apart-push : (ns : List NameValue) (n : NameValue) → Apart ns → AllByRecursion (λ m. same_name m n ≡ false) ns → Apart (ns ++ n ∷ [])
+-- names stay apart when one is added that differs from each
+pub apart-push : (ns : List NameValue) (n : NameValue) → Apart ns → AllByRecursion (λ m. same_name m n ≡ false) ns → Apart (ns ++ n ∷ [])
 apart-push [] n a h = (tt, tt)
 apart-push (m ∷ ns) n a h = (each_more (λ e. same_name m e ≡ false) ns n a.0 h.0, apart-push ns n a.1 h.1)
 
 -- a name that is not found differs from every name
-names_differ : (n : NameValue) (cs : List CaseValue) → is_some (place_of n cs) ≡ false → AllByRecursion (λ m. same_name m n ≡ false) (names cs)
+pub names_differ : (n : NameValue) (cs : List CaseValue) → is_some (place_of n cs) ≡ false → AllByRecursion (λ m. same_name m n ≡ false) (names cs)
 names_differ n cs h = each_made (λ m. same_name m n ≡ false) (λ (c : CaseValue). c.name) cs (place_missed (has_name n) cs h)
 
 -- names stay apart when a case is added whose name is not found

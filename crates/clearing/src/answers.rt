@@ -1,4 +1,6 @@
 //! How the program answers.
+ghost use Rattle.std.specs.Prelude.{◌≡◌, [], string_bytes};
+
 use std::alloc::{AllocError, Global};
 use std::fmt;
 use std::fmt::Write;
@@ -13,6 +15,7 @@ pub(crate) enum Style {
 /// What is answered, in a style.
 #[derive(Drop)]
 pub(crate) struct Answers {
+    heap: Global,
     text: String,
     style: Style,
 }
@@ -21,6 +24,7 @@ impl Answers {
     /// No answers yet.
     pub(crate) fn new(heap: Global, style: Style) -> Answers {
         Answers {
+            heap,
             text: String::new(heap),
             style,
         }
@@ -31,9 +35,12 @@ impl Answers {
         self.text.as_str()
     }
 
-    /// Forgets what was answered.
-    pub(crate) fn clear(&mut self) {
-        self.text.clear();
+    /// Forgets what was answered, and gives back its memory: what one line answers is long gone when a later line needs much.
+    pub(crate) fn clear(&mut self)
+        ensures text { string_bytes self.new.text ≡ [] }
+        ensures style { self.new.style ≡ self.old.style }
+    {
+        self.text = String::new(self.heap);
     }
 
     /// Adds a line with an answer.

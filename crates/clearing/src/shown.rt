@@ -1,7 +1,37 @@
 //! Bytes and values as the program shows them.
 use block::fields::{Field, Part};
 use std::fmt;
+use std::str::from_utf8;
 use tags::listing::Tag;
+
+// What is printed goes to the formatter in pieces of text: by a call of it for each byte a block in hex took six times as long.
+
+/// Adds bytes that are printed as they stand.
+fn write_text<W: fmt::Write>(f: &mut fmt::Formatter<W>, text: &[u8]) -> fmt::Result {
+    f.write_str(from_utf8(text).map_err(|_| fmt::Error)?)
+}
+
+const DIGITS: &[u8; 16] = b"0123456789abcdef";
+
+/// A byte in hex.
+fn digits(byte: u8) -> [u8; 2] {
+    [
+        DIGITS[usize::from(byte / 16)],
+        DIGITS[usize::from(byte % 16)],
+    ]
+}
+
+/// How many bytes in hex are one piece of text: those of a reference, and a part of those of a block.
+const PIECE: usize = 16;
+
+/// The bytes of a piece in hex. `map` over the array was tried: it takes twice as long.
+fn pairs(piece: &[u8; PIECE]) -> [[u8; 2]; PIECE] {
+    let mut pairs = [[0; 2]; PIECE];
+    for (pair, byte) in pairs.iter_mut().zip(piece) {
+        *pair = digits(*byte);
+    }
+    pairs
+}
 
 /// Bytes in hex.
 #[derive(Clone, Copy)]
@@ -9,8 +39,12 @@ pub(crate) struct Hex<'a>(pub &'a [u8]);
 
 impl fmt::Display for Hex<'_> {
     fn fmt<W: fmt::Write>(&self, f: &mut fmt::Formatter<W>) -> fmt::Result {
-        for byte in self.0 {
-            write!(f, "{byte:02x}")?;
+        let (pieces, rest) = self.0.as_chunks::<PIECE>();
+        for piece in pieces {
+            write_text(f, pairs(piece).as_flattened())?;
+        }
+        for byte in rest {
+            write_text(f, &digits(*byte))?;
         }
         Ok(())
     }
@@ -20,24 +54,45 @@ impl fmt::Display for Hex<'_> {
 #[derive(Clone, Copy)]
 pub(crate) struct Quoted<'a>(pub &'a [u8]);
 
+/// Whether a byte is printed as it stands.
+fn stands(byte: u8) -> bool {
+    matches!(byte, b' '..=b'~') && !matches!(byte, b'"' | b'\\')
+}
+
+/// Adds a byte that is not printed as it stands.
+fn write_escaped<W: fmt::Write>(f: &mut fmt::Formatter<W>, byte: u8) -> fmt::Result {
+    match byte {
+        b'"' => f.write_str("\\\""),
+        b'\\' => f.write_str("\\\\"),
+        _ => {
+            f.write_str("\\x")?;
+            write_text(f, &digits(byte))
+        }
+    }
+}
+
 /// Whether a text stands without quotes.
 fn is_plain(text: &[u8]) -> bool {
-    !text.is_empty()
-        && text.iter().all(|byte| matches!(byte, b'!'..=b'~') && !matches!(byte, b'"' | b'\\'))
+    !text.is_empty() && text.iter().all(|byte| stands(*byte) && *byte != b' ')
 }
 
 impl fmt::Display for Quoted<'_> {
     fn fmt<W: fmt::Write>(&self, f: &mut fmt::Formatter<W>) -> fmt::Result {
-        let mark = if is_plain(self.0) { "" } else { "\"" };
-        f.write_str(mark)?;
-        for byte in self.0 {
-            match *byte {
-                b'"' | b'\\' => write!(f, "\\{}", char::from(*byte))?,
-                b' '..=b'~' => write!(f, "{}", char::from(*byte))?,
-                _ => write!(f, "\\x{byte:02x}")?,
+        if is_plain(self.0) {
+            return write_text(f, self.0);
+        }
+        f.write_str("\"")?;
+        for run in self.0.split_inclusive(|byte| !stands(*byte)) {
+            match run {
+                [byte] if !stands(*byte) => write_escaped(f, *byte)?,
+                [text @ .., byte] if !stands(*byte) => {
+                    write_text(f, text)?;
+                    write_escaped(f, *byte)?;
+                }
+                _ => write_text(f, run)?,
             }
         }
-        f.write_str(mark)
+        f.write_str("\"")
     }
 }
 

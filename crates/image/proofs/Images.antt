@@ -52,7 +52,7 @@ pub held_again : (c : CaseValue) → Fit c → held (case_block c) ≡ c
 held_again c f = ap (λ o. unwrap_or o vacant) (case_block_again c f)
 
 -- and has just its name
-named_case_block : (c : CaseValue) → Fit c → (n : NameValue) → named n (case_block c) ≡ has_name n c
+pub named_case_block : (c : CaseValue) → Fit c → (n : NameValue) → named n (case_block c) ≡ has_name n c
 unfolding named
 named_case_block c f n =
     ap (λ fs. is_value (value_of 2 fs) n.identifier && is_value (value_of 16 fs) n.uetr) (fields-case_block c f)

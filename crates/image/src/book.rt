@@ -80,7 +80,7 @@ impl<'a> CaseBook for ImageBook<'a> {
         self.bytes.len() / BLOCK
     }
 
-    #[tactic(auto, using(crate::proofs::Images::case_at_place))]
+    #[tactic(auto, using(crate::proofs::Images::case_at_place, crate::proofs::Images::length_cases_in, std::proofs::lemmas::Option::slice_get_past))]
     fn case_at(&self, at: usize) -> Option<Case> {
         read_case(self.blocks().get(at)?)
     }

@@ -42,7 +42,8 @@ with_values : (f : Findings) (n : ℕ) (ss : List Slot) (v : Reading) → broken
 with_values f n ss (Ok fs) e = refl
 with_values f n ss (Err x) e = cc
 
-gathered_layout : (k : Option Kind) (n : ℕ) (bs : List (List ℕ)) (f : Findings) → (gathered k n bs f).layout ≡ option_or f.layout (option_map broken_layout (first_fault layout_fault n bs))
+-- what passing over all blocks finds is what each check finds first
+pub gathered_layout : (k : Option Kind) (n : ℕ) (bs : List (List ℕ)) (f : Findings) → (gathered k n bs f).layout ≡ option_or f.layout (option_map broken_layout (first_fault layout_fault n bs))
 gathered_layout k n [] f = sym (or_none f.layout)
 gathered_layout k n (b ∷ bs) f =
     gathered_layout k (n + 1) bs (with_report f n (report (slots_of k n) (layout b)))
@@ -50,7 +51,7 @@ gathered_layout k n (b ∷ bs) f =
     ∙ or_mapped f.layout broken_layout (located n (broken_at (layout b))) (first_fault layout_fault (n + 1) bs)
 
 module _ (k : Kind) where
-  gathered_tags : (n : ℕ) (bs : List (List ℕ)) (f : Findings) → first_fault layout_fault n bs ≡ None → (gathered (Some k) n bs f).tags ≡ option_or f.tags (option_map misplaced_tag (first_fault (tags_fault k) n (map block_fields bs)))
+  pub gathered_tags : (n : ℕ) (bs : List (List ℕ)) (f : Findings) → first_fault layout_fault n bs ≡ None → (gathered (Some k) n bs f).tags ≡ option_or f.tags (option_map misplaced_tag (first_fault (tags_fault k) n (map block_fields bs)))
   gathered_tags n [] f e = sym (or_none f.tags)
   gathered_tags n (b ∷ bs) f e =
       let p = located_none n (broken_at (layout b)) (first_fault layout_fault (n + 1) bs) e in
@@ -58,7 +59,7 @@ module _ (k : Kind) where
       ∙ ap (λ o. option_or o (option_map misplaced_tag (first_fault (tags_fault k) (n + 1) (map block_fields bs)))) (with_tags f n (shape k (role n)) (layout b) p.0)
       ∙ or_mapped f.tags misplaced_tag (located n (tags_fault k n (block_fields b))) (first_fault (tags_fault k) (n + 1) (map block_fields bs))
 
-  gathered_values : (n : ℕ) (bs : List (List ℕ)) (f : Findings) → first_fault layout_fault n bs ≡ None → (gathered (Some k) n bs f).values ≡ option_or f.values (option_map unfit_value (first_fault values_fault n (map block_fields bs)))
+  pub gathered_values : (n : ℕ) (bs : List (List ℕ)) (f : Findings) → first_fault layout_fault n bs ≡ None → (gathered (Some k) n bs f).values ≡ option_or f.values (option_map unfit_value (first_fault values_fault n (map block_fields bs)))
   gathered_values n [] f e = sym (or_none f.values)
   gathered_values n (b ∷ bs) f e =
       let p = located_none n (broken_at (layout b)) (first_fault layout_fault (n + 1) bs) e in

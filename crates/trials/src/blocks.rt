@@ -6,7 +6,6 @@ use block::writer::BlockWriter;
 use block::{BLOCK, BODY};
 use std::test::*;
 use tags::listing::Tag;
-use values::kind::Kind;
 
 /// A block with these bytes at its front and zeros behind them, closed with its check.
 fn starting(front: &[u8]) -> [u8; BLOCK] {
@@ -98,21 +97,17 @@ const PUTS: [Put; 14] = [
 #[test]
 fn puts(rt: HostRuntime) -> Result<(), Fail> {
     let bytes = [65; 106];
-    let identifier = Tag::Identifier.number();
     for put in PUTS.iter() {
         let Put(tag, len, expected) = *put;
         let mut block = [9; BLOCK];
         let mut writer = BlockWriter::new(&mut block);
-        assert!(rt; writer.put(identifier, &bytes[0..20]).is_ok());
+        assert!(rt; writer.put(Tag::Identifier.number(), &bytes[0..20]).is_ok());
         let answer = writer.put(tag, &bytes[0..len.min(106)]);
         writer.close();
         assert_eq!(rt; answer.map_err(|refusal| refusal.number()), expected);
         assert_eq!(rt; judged(&block), Ok(()));
-        assert_eq!(rt; value(&block, identifier), Some(&bytes[0..20]));
-        assert_eq!(rt;
-            value(&block, tag).is_some(),
-            expected.is_ok() || tag == identifier
-        );
+        assert_eq!(rt; value(&block, 2), Some(&bytes[0..20]));
+        assert_eq!(rt; value(&block, tag).is_some(), expected.is_ok() || tag == 2);
     }
     Ok(())
 }
@@ -122,11 +117,7 @@ fn let_go(rt: HostRuntime) -> Result<(), Fail> {
     let mut block = [9; BLOCK];
     {
         let mut writer = BlockWriter::new(&mut block);
-        assert!(rt;
-            writer
-                .put(Tag::Kind.number(), &[Kind::Request.number()])
-                .is_ok()
-        );
+        assert!(rt; writer.put(Tag::Kind.number(), &[13]).is_ok());
     }
     assert_eq!(rt; block, [0; BLOCK]);
     Ok(())

@@ -64,6 +64,28 @@ impl Stage {
     }
 }
 
+/// A stage, and the bytes of the identifier of the message that closed it, if it is closed.
+type Seen = (Stage, Option<[u8; 20]>);
+
+/// What is seen of a state.
+fn seen(state: State) -> Seen {
+    match state {
+        State::Open => (Open, None),
+        State::Pending => (Pending, None),
+        State::Agreed(closing) => (Agreed, Some(closing.bytes)),
+        State::Declined(closing) => (Declined, Some(closing.bytes)),
+        State::Withdrawn(closing) => (Withdrawn, Some(closing.bytes)),
+    }
+}
+
+/// What is to be seen of a state that came of a message with these bytes as its identifier.
+fn closed_by(stage: Stage, closing: &[u8; 20]) -> Seen {
+    match stage {
+        Open | Pending => (stage, None),
+        Agreed | Declined | Withdrawn => (stage, Some(*closing)),
+    }
+}
+
 /// What the case with this number is about: a recall where the number is even, else a request.
 fn subject(number: u8) -> Result<Subject, Fail> {
     if number % 2 == 0 {
@@ -137,13 +159,15 @@ fn answers(rt: HostRuntime) -> Result<(), Fail> {
     for Answer(stage, after, withdrawn) in ANSWERS {
         let case = case(1, stage.state(closing))?;
         for (status, next) in STATUSES.iter().zip(after) {
-            assert!(rt;
-                case.after(*status, later) == next.map(|next| next.state(later)),
+            assert_eq!(rt;
+                case.after(*status, later).map(seen),
+                next.map(|next| closed_by(next, LATER)),
                 "in state {stage:?}"
             );
         }
-        assert!(rt;
-            case.after_withdrawal(later) == withdrawn.map(|next| next.state(later)),
+        assert_eq!(rt;
+            case.after_withdrawal(later).map(seen),
+            withdrawn.map(|next| closed_by(next, LATER)),
             "in state {stage:?}"
         );
         let closed = stage != Open && stage != Pending;
@@ -174,15 +198,18 @@ const STATES: [(u8, bool, Option<Stage>); 14] = [
 fn state_numbers(rt: HostRuntime) -> Result<(), Fail> {
     let closing = fit(CLOSING)?;
     for (number, closed, expected) in STATES.iter() {
-        let given = closed.then_some(closing);
-        let read = State::read(*number, given);
-        assert!(rt;
-            read == expected.map(|stage| stage.state(closing)),
+        let read = State::read(*number, closed.then_some(closing));
+        assert_eq!(rt;
+            read.map(seen),
+            expected.map(|stage| closed_by(stage, CLOSING)),
             "number {number}"
         );
         if let Some(state) = read {
             assert_eq!(rt; state.number(), *number);
-            assert!(rt; state.closing() == given);
+            assert_eq!(rt;
+                state.closing().map(|back| back.bytes),
+                closed.then_some(*CLOSING)
+            );
         }
     }
     Ok(())
