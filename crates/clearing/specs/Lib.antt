@@ -1,3 +1,4 @@
 pub mod Hex
 pub mod Assigned
 pub mod Lines
+pub mod Printed

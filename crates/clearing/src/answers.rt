@@ -39,6 +39,7 @@ impl Answers {
     pub(crate) fn clear(&mut self)
         ensures text { string_bytes self.new.text ≡ [] }
         ensures style { self.new.style ≡ self.old.style }
+        ensures heap { self.new.heap ≡ self.old.heap }
     {
         self.text = String::new(self.heap);
     }

@@ -1,4 +1,7 @@
 //! Bytes and values as the program shows them.
+ghost use Rattle.std.specs.Prelude.{◌≡◌, ◌≤◌, ◌+◌, ◌++◌, length, take, flat_map};
+ghost use Rattle.clearing.specs.Printed.{in_hex, in_quotes};
+
 use block::fields::{Field, Part};
 use std::fmt;
 use std::str::from_utf8;
@@ -14,7 +17,9 @@ fn write_text<W: fmt::Write>(f: &mut fmt::Formatter<W>, text: &[u8]) -> fmt::Res
 const DIGITS: &[u8; 16] = b"0123456789abcdef";
 
 /// A byte in hex.
-fn digits(byte: u8) -> [u8; 2] {
+fn digits(byte: u8) -> [u8; 2]
+    ensures { result ≡ in_hex byte }
+{
     [
         DIGITS[usize::from(byte / 16)],
         DIGITS[usize::from(byte % 16)],
@@ -59,21 +64,68 @@ fn stands(byte: u8) -> bool {
     matches!(byte, b' '..=b'~') && !matches!(byte, b'"' | b'\\')
 }
 
-/// Adds a byte that is not printed as it stands.
-fn write_escaped<W: fmt::Write>(f: &mut fmt::Formatter<W>, byte: u8) -> fmt::Result {
+/// Whether a text stands without quotes.
+fn is_plain(text: &[u8]) -> bool {
+    !text.is_empty() && text.iter().all(|byte| stands(*byte) && *byte != b' ')
+}
+
+/// How many bytes of a text in quotes are one piece.
+const TEXT_PIECE: usize = 32;
+
+/// The most bytes that print one of them.
+const ESCAPE: usize = 4;
+
+/// Puts a byte at a place as it is printed in quotes, and answers the place behind it.
+fn put(room: &mut [u8; ESCAPE * TEXT_PIECE], at: usize, byte: u8) -> usize
+    requires { at + 4 ≤ 128 }
+    ensures place { result ≡ at + length (in_quotes byte) }
+    ensures bytes { take result room.new ≡ take at room.old ++ in_quotes byte }
+{
     match byte {
-        b'"' => f.write_str("\\\""),
-        b'\\' => f.write_str("\\\\"),
+        b'"' | b'\\' => {
+            room[at] = b'\\';
+            room[at + 1] = byte;
+            at + 2
+        }
+        b' '..=b'~' => {
+            room[at] = byte;
+            at + 1
+        }
         _ => {
-            f.write_str("\\x")?;
-            write_text(f, &digits(byte))
+            let [high, low] = digits(byte);
+            room[at] = b'\\';
+            room[at + 1] = b'x';
+            room[at + 2] = high;
+            room[at + 3] = low;
+            at + 4
         }
     }
 }
 
-/// Whether a text stands without quotes.
-fn is_plain(text: &[u8]) -> bool {
-    !text.is_empty() && text.iter().all(|byte| stands(*byte) && *byte != b' ')
+/// Puts a piece of a text as it is printed in quotes, and answers how many bytes that took.
+fn fill(room: &mut [u8; ESCAPE * TEXT_PIECE], piece: &[u8]) -> usize
+    requires { length piece.now ≤ 32 }
+    ensures within { result ≤ 128 }
+    ensures bytes { take result room.new ≡ flat_map in_quotes piece.now }
+{
+    let mut used = 0;
+    for byte in piece {
+        used = put(room, used, *byte);
+    }
+    used
+}
+
+/// Adds a text as it is printed in quotes: at once where all of it stands, and else in pieces.
+fn write_quoted<W: fmt::Write>(f: &mut fmt::Formatter<W>, text: &[u8]) -> fmt::Result {
+    if text.iter().all(|byte| stands(*byte)) {
+        return write_text(f, text);
+    }
+    for piece in text.chunks(TEXT_PIECE) {
+        let mut room = [0; ESCAPE * TEXT_PIECE];
+        let used = fill(&mut room, piece);
+        write_text(f, &room[..used])?;
+    }
+    Ok(())
 }
 
 impl fmt::Display for Quoted<'_> {
@@ -82,16 +134,7 @@ impl fmt::Display for Quoted<'_> {
             return write_text(f, self.0);
         }
         f.write_str("\"")?;
-        for run in self.0.split_inclusive(|byte| !stands(*byte)) {
-            match run {
-                [byte] if !stands(*byte) => write_escaped(f, *byte)?,
-                [text @ .., byte] if !stands(*byte) => {
-                    write_text(f, text)?;
-                    write_escaped(f, *byte)?;
-                }
-                _ => write_text(f, run)?,
-            }
-        }
+        write_quoted(f, self.0)?;
         f.write_str("\"")
     }
 }
